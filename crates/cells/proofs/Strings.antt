@@ -1,0 +1,108 @@
+-- Laws of strings and of equal byte runs. Assumes nothing.
+use mathlib.Core.Path.{_≡_, refl, sym, ap, ap₂, _∙_}
+use mathlib.Core.Bool.{Bool, true, false}
+use mathlib.Core.List.{List, [], _∷_, _++_}
+use Prim.Native.Nat.{ℕ, suc, zero, _+_, _-_, _<_, _≤_, min}
+use native.Mathlib.Nat.{add-zero}
+use native.Mathlib.Omega.{arith}
+use native.Mathlib.Numerals.{add-one}
+use borrow.Author.Tests.{eq-eqb, ne-eqb, eqb-true, eqb-false}
+use lib.Dec.{eqb}
+use lib.ListN.{getD, length, take, drop, drop-of-length-le, length-append, length-take}
+use lib.Seq.{drop-cons, take-nil, take-suc, take-all, getD-append-seam, take-append-seam}
+use Rattle.cells.specs.declared.Ending.{Ending}
+use Rattle.cells.specs.declared.Ending.the-variants.{At, Nowhere}
+use Rattle.cells.specs.Strings.{Text, ended, unended, onto, textOf, textAt, endingOf, sameBytes, isString}
+
+-- a string, byte by byte
+module _ (s : List ℕ) (end i : ℕ) where
+  cons-at : i < length s → i < end → take (end - i) (drop i s) ≡ getD s i 0 ∷ take (end - (i + 1)) (drop (i + 1) s)
+  cons-at h k = let e : end - i ≡ suc (end - (i + 1)) = omega arith in rw (e, drop-cons s i 0 h, add-one i)
+
+  none-at : min (length s) end ≤ i → take (end - i) (drop i s) ≡ []
+  none-at h = go (end - i) refl
+    where
+      go : (n : ℕ) → end - i ≡ n → take n (drop i s) ≡ []
+      go zero e = refl
+      go (suc n) e = let p : length s ≤ i = omega arith in rw (drop-of-length-le s p) (take-nil (suc n))
+
+  pub no-text : min (length s) end ≤ i → endingOf i (textAt s i end) ≡ Nowhere
+  unfolding textAt textOf endingOf
+  no-text h = rw (none-at h)
+
+  pub text-ends : i < min (length s) end → getD s i 0 ≡ 0 → endingOf i (textAt s i end) ≡ At i
+  unfolding textAt textOf endingOf
+  text-ends h z =
+      let a : i < length s = omega arith in
+      let b : i < end = omega arith in
+      rw (cons-at a b, eq-eqb (getD s i 0) 0 z, textOf) (rw (add-zero i))
+
+  pub text-goes-on : i < min (length s) end → (getD s i 0 ≡ 0 → ⊥) → endingOf i (textAt s i end) ≡ endingOf (i + 1) (textAt s (i + 1) end)
+  unfolding textAt textOf endingOf
+  text-goes-on h z =
+      let a : i < length s = omega arith in
+      let b : i < end = omega arith in
+      rw (cons-at a b, ne-eqb (getD s i 0) 0 z, textOf) (go (textOf (take (end - (i + 1)) (drop (i + 1) s))))
+    where
+      go : (t : Text) → endingOf i (onto (getD s i 0) t) ≡ endingOf (i + 1) t
+      go (ended cs) = ap At (omega arith)
+      go unended = refl
+
+-- the test says whether the runs are equal
+pub same-true : (a b : List ℕ) → sameBytes a b ≡ true → a ≡ b
+unfolding sameBytes
+same-true [] [] e = refl
+same-true [] (y ∷ ys) e = cc
+same-true (x ∷ xs) [] e = cc
+same-true (x ∷ xs) (y ∷ ys) e = go (eqb x y) refl (same-true xs ys) e
+  where
+    go : (t : Bool) → eqb x y ≡ t → (sameBytes xs ys ≡ true → xs ≡ ys) → (elim t as (λ _. Bool) [ true ↦ sameBytes xs ys | false ↦ false ]) ≡ true → x ∷ xs ≡ y ∷ ys
+    go true p f q = ap₂ (λ (a : ℕ) (l : List ℕ). a ∷ l) (eqb-true x y p) (f q)
+    go false p f q = cc
+
+pub same-refl : (a : List ℕ) → sameBytes a a ≡ true
+unfolding sameBytes
+same-refl [] = refl
+same-refl (x ∷ xs) = rw (eq-eqb x x refl, sameBytes) (same-refl xs)
+
+pub same-false : (a b : List ℕ) → (a ≡ b → ⊥) → sameBytes a b ≡ false
+same-false a b h = go (sameBytes a b) refl
+  where
+    go : (t : Bool) → sameBytes a b ≡ t → t ≡ false
+    go true e = absurd (h (same-true a b e))
+    go false e = refl
+
+-- runs that are equal exactly when two others are
+pub same-same : (a b c d : List ℕ) → (a ≡ b → c ≡ d) → (c ≡ d → a ≡ b) → sameBytes a b ≡ sameBytes c d
+same-same a b c d f g = go (sameBytes a b) refl
+  where
+    apart : false ≡ true → ⊥
+    apart e = let z : _≡_ {A = ℕ} 0 1 = cc in omega arith
+
+    go : (t : Bool) → sameBytes a b ≡ t → t ≡ sameBytes c d
+    go true e = sym (rw (← f (same-true a b e)) (same-refl c))
+    go false e = sym (same-false c d (λ q. apart (sym e ∙ rw (g q) (same-refl b))))
+
+-- a value and one string
+module _ (value text : List ℕ) where
+  pub other-length : (length value ≡ length text + 1 → ⊥) → isString value text ≡ false
+  unfolding isString
+  other-length h = same-false value (text ++ 0 ∷ []) (λ e. h (ap length e ∙ length-append text (0 ∷ [])))
+
+  pub other-end : (getD value (length text) 0 ≡ 0 → ⊥) → isString value text ≡ false
+  unfolding isString
+  other-end h =
+      same-false value (text ++ 0 ∷ []) (λ e. h (ap (λ (l : List ℕ). getD l (length text) 0) e ∙ getD-append-seam text 0 [] 0))
+
+  pub string-front : length value ≡ length text + 1 → getD value (length text) 0 ≡ 0 → sameBytes (take (length text) value) text ≡ isString value text
+  unfolding isString
+  string-front l z =
+      same-same (take (length text) value) text value (text ++ 0 ∷ [])
+      (λ e. whole ∙ ap (λ (x : List ℕ). x ++ 0 ∷ []) e)
+      (λ e. ap (take (length text)) e ∙ take-append-seam text (0 ∷ []))
+    where
+      whole : value ≡ take (length text) value ++ 0 ∷ []
+      whole =
+          let h : length text < length value = omega arith in
+          let k : length value ≤ suc (length text) = omega arith in
+          sym (take-all (suc (length text)) value k) ∙ take-suc value (length text) 0 h ∙ ap (λ (x : ℕ). take (length text) value ++ x ∷ []) z

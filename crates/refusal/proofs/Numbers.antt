@@ -1,0 +1,63 @@
+-- Two refusals of one number are one refusal, so that an outcome's number decides the answer's refusal. Assumes nothing.
+use mathlib.Core.Path.{_≡_, refl, sym, ap, _∙_}
+use mathlib.Core.List.{List, [], _∷_}
+use Prim.Native.Nat.{ℕ}
+use lib.ListN.{getD}
+use Rattle.refusal.specs.Refusal.{numberOf}
+use Rattle.refusal.specs.declared.Refusal.{Refusal}
+use Rattle.refusal.specs.declared.Refusal.the-variants.{None, TreeLength, Magic, TreeSize, Version, BlockBounds, Token, Name, TooMany, Repeated, NotFound, PropertyForm, OutOfRange, UnknownPhandle, RecordForm, Level, Position, FeatureEnabled, BufferLength, NotAscending, UnitText}
+
+-- the refusal of a number
+abbrev refusalOf : ℕ → Refusal
+refusalOf n =
+    getD
+    (None
+    ∷ TreeLength
+    ∷ Magic
+    ∷ TreeSize
+    ∷ Version
+    ∷ BlockBounds
+    ∷ Token
+    ∷ Name
+    ∷ TooMany
+    ∷ Repeated
+    ∷ NotFound
+    ∷ PropertyForm
+    ∷ OutOfRange
+    ∷ UnknownPhandle
+    ∷ RecordForm
+    ∷ Level
+    ∷ Position
+    ∷ FeatureEnabled
+    ∷ BufferLength
+    ∷ NotAscending
+    ∷ UnitText
+    ∷ [])
+    n
+    None
+
+back : (r : Refusal) → refusalOf (numberOf r) ≡ r
+back None = refl
+back TreeLength = refl
+back Magic = refl
+back TreeSize = refl
+back Version = refl
+back BlockBounds = refl
+back Token = refl
+back Name = refl
+back TooMany = refl
+back Repeated = refl
+back NotFound = refl
+back PropertyForm = refl
+back OutOfRange = refl
+back UnknownPhandle = refl
+back RecordForm = refl
+back Level = refl
+back Position = refl
+back FeatureEnabled = refl
+back BufferLength = refl
+back NotAscending = refl
+back UnitText = refl
+
+pub same-number : (a b : Refusal) → numberOf a ≡ numberOf b → a ≡ b
+same-number a b e = sym (back a) ∙ ap refusalOf e ∙ back b

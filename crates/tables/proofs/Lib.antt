@@ -1,0 +1,4 @@
+pub mod Rows
+pub mod Ascending
+pub mod SegmentLaws
+pub mod TypeZero

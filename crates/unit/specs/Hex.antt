@@ -1,0 +1,68 @@
+-- Numbers as hexadecimal text, over the largest number allowed (document 01, "CPU properties and unit text" and refusal 20).
+use Prim.Native.Nat.{ℕ, zero, suc, _+_, _*_, _/_, _%_}
+use mathlib.Core.Bool.{Bool, true, false}
+use mathlib.Core.List.{List, [], _∷_, _++_}
+use lib.Dec.{leb, ltb}
+use lib.ListN.{length}
+use Rattle.characters.specs.Characters.{hexValue}
+use Rattle.characters.specs.Characters as characters
+use Rattle.cells.specs.Buffer.{written}
+use Rattle.refusal.specs.Refusal.{Outcome, answer, refuse}
+use Rattle.refusal.specs.Checks.{Check, check, firstFault}
+
+-- "above 16 characters"
+abbrev pub mostDigits : ℕ
+mostDigits = 16
+
+-- each character is a hex digit of either case
+unfoldable pub allHex : List ℕ → Bool
+allHex [] = true
+allHex (c ∷ cs) = elim (ltb (hexValue c) 16) [ true ↦ allHex cs | false ↦ false ]
+
+-- the number of a run of digits that follows the digits of `high`
+unfoldable pub hexAfter : ℕ → List ℕ → ℕ
+hexAfter high [] = high
+hexAfter high (c ∷ cs) = hexAfter (high * 16 + hexValue c) cs
+
+abbrev pub hexNumber : List ℕ → ℕ
+hexNumber text = hexAfter 0 text
+
+-- "empty, above 16 characters, or a character that is no hex digit"; "20 before 12"
+unfoldable pub hexChecks : ℕ → List ℕ → List (Check ℕ)
+hexChecks largest text =
+    check (ltb 0 (length text)) 20
+    ∷ check (leb (length text) mostDigits) 20
+    ∷ check (allHex text) 20
+    ∷ check (leb (hexNumber text) largest) 12
+    ∷ []
+
+-- the number that a text stands for
+unfoldable pub readHex : ℕ → List ℕ → Outcome ℕ
+readHex largest text = firstFault (refuse 0) (hexChecks largest text) (answer (hexNumber text))
+
+abbrev pub hexDigit : ℕ → ℕ
+hexDigit v = characters.hexDigit v
+
+-- the digits of a number, lower-case and with no leading zero; there are at most as many as the first argument says
+unfoldable pub digitsOf : ℕ → ℕ → List ℕ
+digitsOf zero n = []
+digitsOf (suc most) n = elim (ltb n 16) [ true ↦ hexDigit n ∷ [] | false ↦ digitsOf most (n / 16) ++ (hexDigit (n % 16) ∷ []) ]
+
+-- "written lower-case and shortest": a number has fewer digits than it has units, or one
+unfoldable pub hexText : ℕ → List ℕ
+hexText n = digitsOf (suc n) n
+
+unfoldable pub digitCount : ℕ → ℕ
+digitCount n = length (hexText n)
+
+-- a buffer of `room` bytes has place for the text from `at` on
+abbrev pub fits : ℕ → ℕ → ℕ → Bool
+fits n at room = leb (at + digitCount n) room
+
+-- the number of bytes written, or 18
+unfoldable pub writeHex : ℕ → ℕ → ℕ → Outcome ℕ
+writeHex n at room = firstFault (refuse 0) (check (fits n at room) 18 ∷ []) (answer (digitCount n))
+
+-- the buffer afterwards; a refusal leaves it
+unfoldable pub afterHex : ℕ → ℕ → List ℕ → List ℕ
+afterHex n at old = elim (fits n at (length old)) [ true ↦ written old at (hexText n) | false ↦ old ]
