@@ -1,3 +1,4 @@
 pub mod Cells
 pub mod Strings
 pub mod Buffer
+pub mod Rows

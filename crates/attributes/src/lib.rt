@@ -1,0 +1,195 @@
+// `ibm,pa-features`, `ibm,pi-features` and `ibm,extended-bus-frequency`.
+use refusal::Refusal;
+ghost use mathlib.Core.Path.{_≡_};
+ghost use Prim.Native.Nat.{_≤_};
+ghost use lib.ListN.{length};
+ghost use Rattle.refusal.specs.Refusal.{numberOf};
+ghost use Rattle.attributes.specs.Attributes.{
+  Located,
+  paTable,
+  paFeatures,
+  paOutcome,
+  piTable,
+  piFeatures,
+  piOutcome,
+  busFrequency,
+  busOutcome,
+};
+
+// The most bytes of an attribute descriptor.
+pub const MOST_BYTES: usize = 254;
+
+// The attributes of `ibm,pa-features`; each flag is 0 or 1.
+pub struct PaTable {
+    pub raw: [u8; 6],
+    pub data_streams: u8,
+    pub vector: u8,
+    pub vector_scalar: u8,
+    pub vector_crypto: u8,
+    pub transactional_memory: u8,
+    pub coprocessor: u64,
+}
+
+pub struct PaFeatures {
+    pub refusal: Refusal,
+    pub table: PaTable,
+}
+
+// The bytes of `ibm,pi-features`, and zeros.
+pub struct PiTable {
+    pub count: u32,
+    pub bytes: [u8; 254],
+}
+
+pub struct PiFeatures {
+    pub refusal: Refusal,
+    pub table: PiTable,
+}
+
+pub struct BusFrequency {
+    pub refusal: Refusal,
+    pub frequency: u64,
+}
+
+// Where the bytes of the one descriptor of type 0 stand.
+struct TypeZero {
+    refusal: Refusal,
+    from: usize,
+    to: usize,
+}
+
+fn type_zero_refused(refusal: Refusal) -> TypeZero
+    ensures { λ r. ⌜ (r .refusal ≡ refusal) × (r .from ≡ 0) × (r .to ≡ 0) ⌝ }
+{
+    TypeZero {
+        refusal,
+        from: 0,
+        to: 0,
+    }
+}
+
+fn type_zero(value: &[u8]) -> TypeZero
+    ensures { λ r. ⌜ Located (now (value .entry)) (numberOf (r .refusal)) (r .from) (r .to) ⌝ }
+{
+    if value.len() == 0 {
+        return type_zero_refused(Refusal::PropertyForm);
+    }
+    let mut found: usize = 0;
+    let mut from = 0;
+    let mut to = 0;
+    let mut at = 0;
+    while at < value.len() {
+        let left = value.len() - at;
+        if left < 2 {
+            return type_zero_refused(Refusal::PropertyForm);
+        }
+        let length = value[at] as usize;
+        if length == 0 {
+            return type_zero_refused(Refusal::OutOfRange);
+        }
+        if MOST_BYTES < length {
+            return type_zero_refused(Refusal::OutOfRange);
+        }
+        if left - 2 < length {
+            return type_zero_refused(Refusal::PropertyForm);
+        }
+        let start = at + 2;
+        let next = start + length;
+        if value[at + 1] == 0 {
+            found += 1;
+            from = start;
+            to = next;
+        }
+        at = next;
+    }
+    if found == 0 {
+        return type_zero_refused(Refusal::NotFound);
+    }
+    if 1 < found {
+        return type_zero_refused(Refusal::Repeated);
+    }
+    TypeZero {
+        refusal: Refusal::None,
+        from,
+        to,
+    }
+}
+
+// The attributes that the bytes of a descriptor say; bytes not supplied are zero.
+fn attributes(bytes: &[u8]) -> PaTable
+    ensures { λ r. ⌜ r ≡ paTable (now (bytes .entry)) ⌝ }
+{
+    let b0 = cells::byte_at(bytes, 0);
+    let b1 = cells::byte_at(bytes, 1);
+    let b2 = cells::byte_at(bytes, 2);
+    let b3 = cells::byte_at(bytes, 3);
+    let b4 = cells::byte_at(bytes, 4);
+    let b5 = cells::byte_at(bytes, 5);
+    PaTable {
+        raw: [b0, b1, b2, b3, b4, b5],
+        data_streams: cells::byte_at(bytes, 6) / 128,
+        vector: cells::byte_at(bytes, 16) / 128,
+        vector_scalar: cells::byte_at(bytes, 18) / 128,
+        vector_crypto: cells::byte_at(bytes, 20) / 128,
+        transactional_memory: cells::byte_at(bytes, 22) / 128,
+        coprocessor: cells::word_at(bytes, 8),
+    }
+}
+
+// The value of `ibm,pa-features`. Refusals: 11 for no bytes; descriptor by descriptor 11, 12, 11; 10; 9.
+pub fn pa_features(value: &[u8]) -> PaFeatures
+    ensures { λ r. ⌜ paOutcome r ≡ paFeatures (now (value .entry)) ⌝ }
+{
+    let found = type_zero(value);
+    let refusal = found.refusal;
+    let from = found.from;
+    let to = found.to;
+    let table = attributes(&value[from..to]);
+    PaFeatures { refusal, table }
+}
+
+// The bytes of a descriptor, and zeros.
+fn raw_bytes(bytes: &[u8]) -> PiTable
+    requires { ⌜ length (now bytes) ≤ 254 ⌝ }
+    ensures { λ r. ⌜ r ≡ piTable (now (bytes .entry)) ⌝ }
+{
+    let mut table = PiTable {
+        count: 0,
+        bytes: [0; 254],
+    };
+    let mut i = 0;
+    while i < bytes.len() {
+        table.bytes[i] = bytes[i];
+        i += 1;
+    }
+    table.count = i as u32;
+    table
+}
+
+// The value of `ibm,pi-features`. Refusals as for `ibm,pa-features`.
+pub fn pi_features(value: &[u8]) -> PiFeatures
+    ensures { λ r. ⌜ piOutcome r ≡ piFeatures (now (value .entry)) ⌝ }
+{
+    let found = type_zero(value);
+    let refusal = found.refusal;
+    let from = found.from;
+    let to = found.to;
+    let table = raw_bytes(&value[from..to]);
+    PiFeatures { refusal, table }
+}
+
+// The value of `ibm,extended-bus-frequency`. Refusal: 11.
+pub fn bus_frequency(value: &[u8]) -> BusFrequency
+    ensures { λ r. ⌜ busOutcome r ≡ busFrequency (now (value .entry)) ⌝ }
+{
+    if value.len() != 8 {
+        return BusFrequency {
+            refusal: Refusal::PropertyForm,
+            frequency: 0,
+        };
+    }
+    BusFrequency {
+        refusal: Refusal::None,
+        frequency: cells::word_at(value, 0),
+    }
+}

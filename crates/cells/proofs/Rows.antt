@@ -1,0 +1,39 @@
+-- Laws of rows that are filled from the front. Assumes nothing.
+use mathlib.Core.Path.{_≡_, refl, sym, ap, _∙_}
+use mathlib.Core.List.{List, [], _∷_, _++_, append-assoc}
+use Prim.Native.Nat.{ℕ, suc, zero, _+_, _-_, _<_, _≤_}
+use native.Mathlib.Omega.{arith}
+use native.Mathlib.Numerals.{add-one}
+use lib.ListN.{getD, length, set, take, replicate, length-append, length-replicate}
+use lib.Seq.{set-at, length-take-le, take-suc}
+use Rattle.cells.specs.Rows.{each, padded}
+
+module _ {A : Type 0} where
+  pub length-each : (n : ℕ) (f : ℕ → A) → length (each n f) ≡ n
+  length-each zero f = refl
+  length-each (suc n) f = omega (arith, length-append (each n f) (f n ∷ []), length-each n f)
+
+  pub length-padded : (m : ℕ) (z : A) (xs : List A) → length xs ≤ m → length (padded m z xs) ≡ m
+  length-padded m z xs h = omega (arith, length-append xs (replicate (m - length xs) z), length-replicate (m - length xs) z)
+
+  -- one more
+  pub padded-more : (m : ℕ) (z : A) (xs : List A) (x : A) → length xs < m → set (padded m z xs) (length xs) x ≡ padded m z (xs ++ x ∷ [])
+  padded-more m z xs x h =
+      let e : m - length xs ≡ suc (m - (length xs + 1)) = omega arith in
+      let l : length (xs ++ x ∷ []) ≡ length xs + 1 = length-append xs (x ∷ []) in
+      rw (e, l)
+      (set-at xs z (replicate (m - (length xs + 1)) z) x (length xs) refl
+      ∙ sym (append-assoc xs (x ∷ []) (replicate (m - (length xs + 1)) z)))
+
+  pub padded-each : (m : ℕ) (z : A) (f : ℕ → A) (i : ℕ) → i < m → set (padded m z (each i f)) i (f i) ≡ padded m z (each (i + 1) f)
+  padded-each m z f i h =
+      let k : length (each i f) < m = omega (arith, length-each i f) in
+      rw (add-one i) (ap (λ (j : ℕ). set (padded m z (each i f)) j (f i)) (sym (length-each i f)) ∙ padded-more m z (each i f) (f i) k)
+
+  -- one more of a list
+  pub padded-take : (m : ℕ) (z : A) (xs : List A) (i : ℕ) → i < m → i < length xs → set (padded m z (take i xs)) i (getD xs i z) ≡ padded m z (take (i + 1) xs)
+  padded-take m z xs i h l =
+      let n : length (take i xs) ≡ i = length-take-le i xs (omega arith) in
+      let k : length (take i xs) < m = omega arith in
+      rw (add-one i, take-suc xs i z l)
+      (ap (λ (j : ℕ). set (padded m z (take i xs)) j (getD xs i z)) (sym n) ∙ padded-more m z (take i xs) (getD xs i z) k)

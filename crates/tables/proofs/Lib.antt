@@ -1,4 +1,0 @@
-pub mod Rows
-pub mod Ascending
-pub mod SegmentLaws
-pub mod TypeZero

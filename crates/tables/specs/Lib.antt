@@ -1,4 +1,0 @@
-pub mod Rows
-pub mod Sizes
-pub mod Segments
-pub mod Attributes

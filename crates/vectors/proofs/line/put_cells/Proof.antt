@@ -1,0 +1,55 @@
+-- `vectors::line::put_cells` is safe and ends. The measure is how many cells are left. Assumes nothing.
+use Prim.Native.Nat.{_≤_, _-_}
+use borrow.Author.Needs.{needs}
+use lib.ListN.{length}
+use Rattle.vectors.proofs.line.put_cells.Statement.{statement}
+use Rattle.vectors.proofs.line.put_cells.Tie as tie
+
+abbrev Inv-loop : tie.InvT-loop
+Inv-loop out₀ used cells at₀ i₀ out at i = i ≤ length cells
+
+abbrev μ-loop : tie.MeasureT-loop
+μ-loop out₀ used cells at₀ i₀ out at i = length cells - i
+
+loop-holds : tie.Need-loop-holds Inv-loop μ-loop
+loop-holds c = search needs
+
+mul-wider : tie.Need-mul-wider Inv-loop μ-loop
+mul-wider c = search needs
+
+shared-slice-read-wider : tie.Need-shared-slice-read-wider Inv-loop μ-loop
+shared-slice-read-wider c = search needs
+
+wider-requires : tie.Need-wider-requires Inv-loop μ-loop
+wider-requires c κs = search needs
+
+put-number-requires : tie.Need-put-number-requires Inv-loop μ-loop
+put-number-requires c κs = search needs
+
+add-i : tie.Need-add-i Inv-loop μ-loop
+add-i c = search needs
+
+loop-less : tie.Need-loop-less Inv-loop μ-loop
+loop-less c = search needs
+
+loop-again : tie.Need-loop-again Inv-loop μ-loop
+loop-again c = search needs
+
+returns : tie.Need-returns Inv-loop μ-loop
+returns c = search needs
+
+pub put-cells-spec : {M : Type 1} → statement M
+put-cells-spec =
+    tie.close
+    (tie.spec
+    Inv-loop
+    μ-loop
+    loop-holds
+    mul-wider
+    shared-slice-read-wider
+    wider-requires
+    put-number-requires
+    add-i
+    loop-less
+    loop-again
+    returns)

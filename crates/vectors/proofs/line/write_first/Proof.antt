@@ -1,0 +1,28 @@
+-- `vectors::line::write_first` is safe and ends. A part of a slice has the length that its end gives, where that is within the slice.
+-- Assumes nothing.
+use borrow.Author.Needs.{needs}
+use native.Mathlib.Omega.{arith}
+use lib.Seq.{length-take-le}
+use mathlib.Core.Path.{sym}
+use Rattle.vectors.proofs.line.write_first.Statement.{statement}
+use Rattle.vectors.proofs.line.write_first.Tie as tie
+
+slice-aggregate-write-all : tie.Need-slice-aggregate-write-all
+slice-aggregate-write-all c = sym (length-take-le _ _ (omega arith))
+
+write-all-requires : tie.Need-write-all-requires
+write-all-requires c κs = search needs
+
+returns : tie.Need-returns
+returns c = search needs
+
+write-all-requires-2 : tie.Need-write-all-requires-2
+write-all-requires-2 c κs = search needs
+
+returns-2 : tie.Need-returns-2
+returns-2 c = search needs
+
+pub write-first-spec : {M : Type 1} → statement M
+write-first-spec =
+    tie.close
+    (tie.spec slice-aggregate-write-all write-all-requires returns write-all-requires-2 returns-2)

@@ -1,0 +1,679 @@
+"""Vectors for document 01's "CPU properties and unit text".
+
+| kind | bytes                                                                | line after kind and refusal number |
+|------|----------------------------------------------------------------------|------------------------------------|
+| u    | a unit text to read                                                  | the number |
+| w    | a unit number (four bytes, big-endian), then the lent buffer's bytes | the length, and the buffer's bytes afterwards |
+| p, s | page sizes, segment sizes                                            | count, 16 exponents |
+| g    | segment page sizes                                                   | count, then 8 times base, encoding, count and 8 pairs of exponent and encoding |
+| a    | `ibm,pa-features`                                                    | 6 raw bytes, data streams, vector, vector scalar, vector crypto, transactional memory, coprocessor word |
+| i    | `ibm,pi-features`                                                    | count, 254 bytes |
+| f    | `ibm,extended-bus-frequency`                                         | the frequency |
+
+The lines come from the model (tests/model/properties.py). Wherever document 01 fixes what is to come, it is
+written down here by hand as well, and a model that says something else is an error: each group yields (kind,
+bytes, expected), where `expected` is the whole line, the refusal number, or None for whatever the model says.
+"""
+
+from model import properties as model
+from vectors.chance import Chance
+
+SEED = 20240101
+
+HEX_DIGITS = b"0123456789abcdefABCDEF"
+
+ANSWERS = {
+    "u": model.read_unit,
+    "w": lambda data: model.write_unit(int.from_bytes(data[:4], "big"), data[4:]),
+    "p": model.page_sizes,
+    "s": model.segment_sizes,
+    "g": model.segment_page_sizes,
+    "a": model.pa_features,
+    "i": model.pi_features,
+    "f": model.bus_frequency,
+}
+
+
+# Building blocks
+
+
+def cells(*numbers):
+    """The bytes of big-endian cells."""
+    return b"".join(number.to_bytes(4, "big") for number in numbers)
+
+
+def descriptor(base, pairs, encoding=0, count=None):
+    """A descriptor of segment page sizes. `pairs` are (exponent, encoding); `count` where it is to be wrong."""
+    header = cells(base, encoding, len(pairs) if count is None else count)
+    return header + b"".join(cells(*pair) for pair in pairs)
+
+
+def attribute(kind, contents, length=None):
+    """An attribute descriptor; `length` where it is to be wrong."""
+    return bytes([len(contents) if length is None else length, kind]) + contents
+
+
+def zeros_but(length, changes):
+    """Zero bytes, but for those that `changes` gives by place."""
+    contents = bytearray(length)
+    for place, byte in changes.items():
+        contents[place] = byte
+    return bytes(contents)
+
+
+def mutated(chance, value):
+    """The value with one or two small changes at places that chance decides."""
+    value = bytearray(value)
+    for _ in range(chance.between(1, 2)):
+        at = chance.below(len(value) + 1)
+        change = chance.below(6)
+        if change == 0:
+            value[at : at + 1] = b""
+        elif change == 1:
+            value[at:at] = bytes([chance.choice((0, 1, 2, 63, 64, 254, 255))])
+        elif change == 2:
+            del value[at:]
+        elif change == 3:
+            value[at : at + 1] = chance.bytes(1)
+        else:
+            cell = at - at % 4
+            value[cell : cell + 4] = cells(chance.choice((0, 1, 8, 9, 12, 63, 64, 2**32 - 1)))
+    return bytes(value)
+
+
+# Unit text
+
+
+def unit_paper_cases():
+    """Document 01, "Both sides"."""
+    yield "w", cells(0) + b"\xaa", "w 0 1 48"
+    yield "w", cells(255) + b"\xaa\xbb", "w 0 2 102 102"
+    yield "u", b"FFFFFFFF", "u 0 4294967295"
+    yield "u", b"100000000", "u 12 0"
+    yield "u", b"", "u 20 0"
+    yield "u", b"0" * 16, "u 0 0"
+    yield "u", b"0" * 17, "u 20 0"
+
+
+def unit_lengths():
+    """Every length to 18, of the smallest and the largest digit."""
+    for length in range(19):
+        too_long = length == 0 or length > 16
+        yield "u", b"0" * length, 20 if too_long else 0
+        yield "u", b"f" * length, 20 if too_long else 12 if length > 8 else 0
+
+
+def unit_characters():
+    """Every byte alone, and at each place of a longer text in turn."""
+    for byte in range(256):
+        number = 0 if byte in HEX_DIGITS else 20
+        yield "u", bytes([byte]), number
+        text = bytearray(b"1234567")
+        text.insert(byte % 8, byte)
+        yield "u", bytes(text), number
+
+
+def unit_values():
+    """Both cases, leading zeros, both sides of 2^32, and faults of two kinds at once: 20 comes before 12."""
+    for text, unit in (
+        (b"a", 10),
+        (b"A", 10),
+        (b"10", 16),
+        (b"0010", 16),
+        (b"dEaDbEeF", 0xDEADBEEF),
+        (b"0123456789", 0x123456789),
+        (b"00abcdef", 0xABCDEF),
+        (b"00ABCDEF", 0xABCDEF),
+        (b"ffffffff", 0xFFFFFFFF),
+        (b"0FfFfFfFf", 0xFFFFFFFF),
+        (b"00000000ffffffff", 0xFFFFFFFF),
+        (b"80000000", 0x80000000),
+        (b"fffffffe", 0xFFFFFFFE),
+        (b"0000000100000000", 0x100000000),
+        (b"8000000000000000", 0x8000000000000000),
+        (b"ffffffff00000000", 0xFFFFFFFF00000000),
+        (b"0000000f00000001", 0xF00000001),
+        (b"ffffffffffffffff", 0xFFFFFFFFFFFFFFFF),
+    ):
+        yield "u", text, "u 0 %d" % unit if unit < 2**32 else "u 12 0"
+    for text in (
+        b"g",
+        b"0x10",
+        b"0X10",
+        b"-1",
+        b"+1",
+        b" 1",
+        b"1 ",
+        b"1\n",
+        b"1\0",
+        b"\0",
+        b"1_0",
+        b"ff,1",
+        b"@0",
+        b"1.0",
+        b"\xef\xbc\x91",
+        b"0000000000000000f",
+        b"fffffffffffffffff",
+        b"000000000ffffffff",
+        b"gffffffffffffffff",
+        b"gfffffffffffffff",
+        b"fffffffgffffffff",
+        b"fffffffffffffffg",
+        b"10000000g",
+        b"f" * 255,
+        b"0" * 256,
+        b"0" * 272,
+    ):
+        yield "u", text, 20
+
+
+def unit_random(chance):
+    for _ in range(20):
+        unit = chance.below(2 ** chance.between(1, 32))
+        text = format(unit, chance.choice("xX")).rjust(chance.between(1, 16), "0")
+        yield "u", text.encode("ascii"), "u 0 %d" % unit
+
+
+def unit_writes(chance):
+    """Each number into a buffer that fits, one that is a byte shorter, and a longer one."""
+
+    def written(unit, length):
+        """A buffer of nonzero bytes, and what is expected of it."""
+        before = [255 - place % 255 for place in range(length)]
+        text = list(b"%x" % unit)
+        if len(text) > length:
+            after = [18, 0] + before
+        else:
+            after = [0, len(text)] + text + before[len(text) :]
+        return "w", cells(unit) + bytes(before), "w " + " ".join(map(str, after))
+
+    powers = [16**power for power in range(1, 8)]
+    units = {0, 2**32 - 1, *powers, *(power - 1 for power in powers)}
+    units.update(chance.below(2**bits) for bits in (7, 15, 22, 27, 32))
+    for unit in sorted(units):
+        length = len(b"%x" % unit)
+        for room in (length - 1, length, length + 3):
+            yield written(unit, room)
+    for unit in (0, 0xFFFFFFFF):
+        for room in range(13):
+            yield written(unit, room)
+    # A line that is longer than the program's buffer for output.
+    yield written(0xFEDCBA98, 1200)
+
+
+# Plain cells
+
+
+def sizes_line(kind, exponents):
+    """The line of a table of these exponents."""
+    return " ".join(map(str, [kind, 0, len(exponents), *exponents, *[0] * (16 - len(exponents))]))
+
+
+def sizes_refused(kind, number):
+    return " ".join(map(str, [kind, number] + [0] * 17))
+
+
+def sizes_paper_cases(kind):
+    """Document 01, "Both sides"."""
+    yield kind, cells(12, 16, 24), sizes_line(kind, [12, 16, 24])
+    yield kind, cells(12, 12), sizes_refused(kind, 19)
+    yield kind, cells(63), sizes_line(kind, [63])
+    yield kind, cells(64), sizes_refused(kind, 12)
+    yield kind, b"", sizes_refused(kind, 11)
+
+
+def sizes_lengths(kind, lengths):
+    """The first bytes of eighteen ascending cells."""
+    whole = cells(*range(3, 57, 3))
+    for length in lengths:
+        if length == 0 or length % 4:
+            yield kind, whole[:length], 11
+        else:
+            yield kind, whole[:length], 8 if length > 64 else 0
+
+
+def sizes_edges(kind):
+    for exponents in (
+        [0],
+        [0, 1],
+        [0, 63],
+        [62, 63],
+        list(range(16)),
+        list(range(48, 64)),
+        [28, 40],
+    ):
+        yield kind, cells(*exponents), sizes_line(kind, exponents)
+    for exponents in (
+        [65],
+        [127],
+        [256],
+        [0x0C000000],
+        [0x80000000],
+        [0xFFFFFFFF],
+        [63, 64],
+        [0, 0xFFFFFFFF],
+        list(range(15)) + [64],
+        # A cell that is too large, before one that does not ascend.
+        [64, 64],
+        [64, 5],
+        [5, 64, 64],
+        [5, 64, 3],
+        [64] + list(range(15)),
+        # A real table, of POWER9 under OPAL: 28 and 40, and two cells of ones.
+        [28, 40, 0xFFFFFFFF, 0xFFFFFFFF],
+    ):
+        yield kind, cells(*exponents), sizes_refused(kind, 12)
+    for exponents in (
+        [0, 0],
+        [1, 0],
+        [63, 63],
+        [63, 0],
+        [10, 20, 15],
+        [10, 20, 20],
+        [10, 20, 10],
+        [16, 12, 24],
+        list(range(15)) + [14],
+        list(range(15)) + [0],
+        # A cell that does not ascend, before one that is too large.
+        [5, 5, 64],
+        [6, 5, 64],
+        [63, 63, 64],
+        [0, 0] + [64] * 14,
+    ):
+        yield kind, cells(*exponents), sizes_refused(kind, 19)
+    # The maximum comes before every cell, and the length before the maximum.
+    for exponents in (range(17), range(47, 64), [64] * 17, [5] * 17, [64] + list(range(16)), range(64), [0] * 18, range(257)):
+        yield kind, cells(*exponents), sizes_refused(kind, 8)
+    for value in (
+        cells(*range(17)) + b"\0",
+        cells(*[64] * 17) + b"\0",
+        cells(*range(63)) + b"\0\0\0",
+        cells(*range(16)) + b"\xff",
+        cells(64) + b"\0",
+        cells(5, 5) + b"\0\0",
+        b"\x0c",
+        b"\0\0\x0c",
+    ):
+        yield kind, value, sizes_refused(kind, 11)
+
+
+def sizes_random(kind, chance, many):
+    for place in range(many):
+        exponents = sorted(chance.shuffled(range(64))[: chance.between(1, 16)])
+        value = cells(*exponents)
+        if place % 4 == 0:
+            yield kind, value, sizes_line(kind, exponents)
+        elif place % 4 == 1:
+            yield kind, cells(*chance.shuffled(exponents)), None
+        else:
+            yield kind, mutated(chance, value), None
+
+
+# Segment page sizes
+
+
+def segments_counts():
+    """One to nine descriptors, with one pair and with eight."""
+    for pairs in ([(24, 3)], [(24 + place, 100 + place) for place in range(8)]):
+        for many in range(1, 10):
+            value = b"".join(descriptor(12 + place, pairs, 256 * place) for place in range(many))
+            yield "g", value, 8 if many > 8 else 0
+
+
+def segments_trailing():
+    """One to eleven bytes after the first descriptor and after the eighth."""
+    one = descriptor(12, [(12, 0)])
+    for many, number in ((1, 11), (8, 8)):
+        for left in range(1, 12):
+            yield "g", one * many + bytes([255 * (left % 2)]) * left, number
+    yield "g", one * 7 + bytes(1), 11
+    yield "g", one * 7 + bytes(11), 11
+    yield "g", bytes(11), 11
+    yield "g", b"", 11
+
+
+def segments_cut():
+    """Two descriptors, of one pair and of two, cut short at every byte."""
+    whole = descriptor(12, [(12, 0)]) + descriptor(16, [(16, 1), (24, 8)], 0x110)
+    for length in range(len(whole) + 1):
+        yield "g", whole[:length], 0 if length in (20, 48) else 11
+
+
+def segments_edges():
+    pair = (20, 1)
+    # Real tables, of POWER9 under OPAL and of a pseries machine.
+    yield "g", bytes.fromhex(
+        "0000000c00000000000000030000000c00000000000000100000000700000018000000380000001000000110"
+        "0000000200000010000000010000001800000008000000180000010000000001000000180000000000000022"
+        "00000120000000010000002200000003"
+    ), 0
+    yield "g", descriptor(12, [(12, 0)]) + descriptor(16, [(16, 1)], 0x110), 0
+    # Counts.
+    yield "g", descriptor(12, [pair] * 8), 0
+    yield "g", descriptor(12, [], count=0), 12
+    yield "g", descriptor(12, [pair], count=0), 12
+    yield "g", descriptor(12, [pair] * 9), 8
+    for count in (9, 10, 16, 255, 256, 0x01000000, 0x20000000, 0x7FFFFFFF, 0x80000001, 0xFFFFFFFF):
+        yield "g", descriptor(12, [pair] * 8, count=count), 8
+    # Exponents: at most 63, and none below the base.
+    for base, exponents in (
+        (0, [0]),
+        (0, [63]),
+        (63, [63]),
+        (62, [63, 62]),
+        (12, [24, 16, 12]),
+        (12, [16, 16, 16]),
+        (12, [12] * 8),
+    ):
+        yield "g", descriptor(base, [(exponent, 7) for exponent in exponents]), 0
+    for base, exponents in (
+        (64, [64]),
+        (64, [63]),
+        (64, [12]),
+        (65, [70]),
+        (0xFFFFFFFF, [12]),
+        (0xFFFFFFFF, [0xFFFFFFFF]),
+        (0x0C000000, [12]),
+        (12, [64]),
+        (63, [64]),
+        (12, [0xFFFFFFFF]),
+        (12, [0x0C000000]),
+        (12, [11]),
+        (1, [0]),
+        (63, [62]),
+        (12, [12, 64]),
+        (12, [12, 11]),
+        (12, [11, 12]),
+        (12, [16] * 7 + [64]),
+        (12, [16] * 7 + [11]),
+        (12, [64] + [16] * 7),
+        (12, [0, 64]),
+    ):
+        yield "g", descriptor(base, [(exponent, 7) for exponent in exponents]), 12
+    # What is not asked: encodings below a limit, bases in order, no base twice, pages at least an earlier base.
+    yield "g", descriptor(12, [(12, 0xFFFFFFFF), (13, 64)], 0xFFFFFFFF), 0
+    yield "g", descriptor(24, [(24, 0)]) + descriptor(12, [(12, 0)]), 0
+    yield "g", descriptor(12, [(12, 0)]) + descriptor(12, [(12, 0)]), 0
+    yield "g", descriptor(0, [(0, 0)] * 3) * 8, 0
+
+
+def segments_order():
+    """Two faults in one descriptor, and in two: the first of document 01's order decides."""
+    pair = (20, 1)
+    good = descriptor(12, [pair])
+    low = descriptor(12, [(11, 1)])
+    large = descriptor(64, [(64, 1)])
+    # A header cut short comes before its count, which would be 0 or above 8.
+    yield "g", cells(12, 0) + b"\0\0\0", 11
+    yield "g", cells(12, 0) + b"\xff\xff\xff", 11
+    yield "g", good + cells(64, 0) + b"\0\0\0", 11
+    # A count of 0 and one above 8 come before contents cut short, and before an exponent.
+    yield "g", descriptor(64, [], count=0), 12
+    yield "g", descriptor(64, [], count=9), 8
+    yield "g", descriptor(12, [], count=9), 8
+    yield "g", descriptor(12, [(64, 0)], count=9), 8
+    yield "g", descriptor(12, [(64, 0)] * 9), 8
+    yield "g", descriptor(64, [pair] * 9), 8
+    yield "g", descriptor(12, [], count=0xFFFFFFFF), 8
+    yield "g", good + descriptor(64, [pair], count=0xFFFFFFFF), 8
+    # Contents cut short come before an exponent, the base's too.
+    yield "g", descriptor(12, [], count=1), 11
+    yield "g", descriptor(64, [], count=1), 11
+    yield "g", descriptor(64, [(64, 0)], count=2), 11
+    yield "g", descriptor(12, [(64, 0)], count=2), 11
+    yield "g", descriptor(12, [(11, 0)], count=2), 11
+    yield "g", descriptor(12, [(64, 0)])[:-1], 11
+    yield "g", descriptor(12, [pair] * 7, count=8) + bytes(7), 11
+    yield "g", good + descriptor(64, [pair] * 8)[:-1], 11
+    # A ninth comes before all that could be wrong in it.
+    yield "g", good * 8 + b"\0", 8
+    yield "g", good * 8 + descriptor(12, [], count=0), 8
+    yield "g", good * 8 + descriptor(12, [], count=1), 8
+    yield "g", good * 8 + large, 8
+    yield "g", good * 8 + good + b"\0", 8
+    # An earlier descriptor's fault comes before a later one's.
+    yield "g", low + descriptor(12, [pair] * 9), 12
+    yield "g", low + b"\0", 12
+    yield "g", low + good * 8, 12
+    yield "g", large + descriptor(12, [], count=0), 12
+    yield "g", descriptor(12, [pair] * 9) + large, 8
+    yield "g", descriptor(12, [pair] * 9) + b"\0", 8
+    yield "g", descriptor(12, [], count=0) + descriptor(12, [pair] * 9), 12
+    yield "g", descriptor(12, [], count=0) + b"\0", 12
+    yield "g", good + low + descriptor(12, [pair] * 9) + b"\0", 12
+    yield "g", good + descriptor(12, [pair] * 9) + low + b"\0", 8
+    yield "g", good * 7 + low + good, 12
+    yield "g", good * 7 + descriptor(12, [], count=0) + good, 12
+    yield "g", good * 7 + descriptor(12, [], count=9) + good, 8
+    yield "g", good * 7 + descriptor(12, [pair], count=8) + good, 11
+    yield "g", good * 7 + large + b"\0", 12
+
+
+def segments_random(chance, many):
+    for place in range(many):
+        value = b""
+        for _ in range(chance.between(1, 8)):
+            base = chance.below(64)
+            pairs = [(chance.between(base, 63), chance.below(2**32)) for _ in range(chance.between(1, 8))]
+            value += descriptor(base, pairs, chance.below(2**32))
+        if place % 4 == 0:
+            yield "g", value, 0
+        else:
+            yield "g", mutated(chance, value), None
+
+
+# Attributes
+
+
+def attributes_edges(kind):
+    """What `ibm,pa-features` and `ibm,pi-features` have in common."""
+    zero = attribute(0, b"\x11\x22\x33")
+    other = attribute(1, b"\x44\x55")
+    for value in (
+        zero,
+        attribute(0, b"\0"),
+        attribute(0, b"\xff"),
+        attribute(0, bytes(range(1, 255))),
+        attribute(0, b"\xff" * 254),
+        other + zero,
+        zero + other,
+        other + zero + other,
+        attribute(255, b"\0") + attribute(128, b"\0") + zero + attribute(2, b"\0"),
+        attribute(1, b"\xff" * 254) + zero + attribute(1, b"\xff" * 254),
+        # Contents that look like descriptors.
+        attribute(0, zero + zero),
+        attribute(1, zero) + zero,
+        # There is no most number of descriptors.
+        other * 40 + zero + other * 40,
+        b"".join(attribute(place, bytes([place])) for place in range(256)),
+    ):
+        yield kind, value, 0
+    for value in (
+        other,
+        other + other,
+        attribute(255, b"\0"),
+        attribute(128, b"\0" * 254),
+        attribute(1, zero),
+        other * 90,
+    ):
+        yield kind, value, 10
+    for value in (
+        zero + zero,
+        zero * 3,
+        zero + attribute(0, b"\x77" * 254),
+        zero + other + zero,
+        other + zero + zero + other,
+        zero * 20,
+    ):
+        yield kind, value, 9
+    # Length bytes of 0 and 255, before contents cut short, and before every type.
+    for value in (
+        b"\0\0",
+        b"\0\1",
+        b"\xff\0",
+        b"\xff\1",
+        attribute(0, b"\x11" * 255),
+        attribute(0, b"", length=0) + zero,
+        attribute(0, b"\x11" * 30, length=255),
+        zero + b"\0\0",
+        zero + b"\xff\0",
+        zero + b"\0\1" + zero,
+        other + b"\0\1",
+        other + b"\xff\0",
+        zero + zero + b"\0\0",
+        zero + zero + b"\xff\1",
+        zero * 3 + b"\0\2" + other,
+        # Before a later descriptor that is cut short.
+        b"\0\0\5",
+        zero + b"\xff\0\5",
+    ):
+        yield kind, value, 12
+    # A header cut short, whatever the one byte is, and contents cut short, before every type.
+    for value in (
+        b"",
+        b"\0",
+        b"\1",
+        b"\xfe",
+        b"\xff",
+        zero + b"\0",
+        zero + b"\1",
+        zero + b"\xff",
+        other + b"\0",
+        other + b"\xff",
+        zero + zero + b"\0",
+        zero + zero + b"\xff",
+        b"\1\0",
+        b"\xfe\0",
+        attribute(0, b"\x11" * 253, length=254),
+        attribute(1, b"\x11" * 253, length=254),
+        zero + b"\1\0",
+        zero + b"\1\1",
+        other + b"\1\1",
+        zero + zero + b"\1\0",
+        zero + zero + b"\2\1\0",
+        zero * 3 + attribute(1, b"\0" * 29, length=30),
+    ):
+        yield kind, value, 11
+
+
+def attributes_cut(kind):
+    """Three descriptors, the second of type 0, cut short at every byte."""
+    whole = attribute(1, b"\0\0") + attribute(0, b"\1\0\xff") + attribute(2, b"\0")
+    for length in range(len(whole) + 1):
+        yield kind, whole[:length], {4: 10, 9: 0, 12: 0}.get(length, 11)
+
+
+def attributes_lengths(kind, lengths):
+    """A descriptor of each length, every bit set: what is not supplied reads as zero."""
+    for length in lengths:
+        yield kind, attribute(0, b"\xff" * length), 0
+
+
+def attributes_random(kind, chance, many):
+    for place in range(many):
+        used = attribute(0, chance.bytes(chance.choice((5, 7, 8, 12, 16, 22, 23, 24, 30))))
+        others = [
+            attribute(chance.between(1, 255), chance.bytes(chance.between(1, 12))) for _ in range(chance.below(4))
+        ]
+        value = b"".join(chance.shuffled([used] + others))
+        if place % 4 == 0:
+            yield kind, value, 0
+        else:
+            yield kind, mutated(chance, value), None
+
+
+def pa_line(raw, bits, coprocessor):
+    return " ".join(map(str, ["a", 0, *raw, *bits, coprocessor]))
+
+
+def pa_bits():
+    """Each bit of the bytes that hold an attribute, alone; and the bytes around them."""
+    none = [0] * 6
+    for attribute_place, byte_place in enumerate((6, 16, 18, 20, 22)):
+        for bit in range(8):
+            bits = [0] * 5
+            bits[attribute_place] = 1 if bit == 7 else 0
+            yield "a", attribute(0, zeros_but(24, {byte_place: 2**bit})), pa_line(none, bits, 0)
+    for place in (7, 17, 19, 21, 23, 24, 25, 29):
+        yield "a", attribute(0, zeros_but(30, {place: 0xFF})), pa_line(none, [0] * 5, 0)
+    for place in range(8, 16):
+        word = (0x80 + place) * 256 ** (15 - place)
+        yield "a", attribute(0, zeros_but(24, {place: 0x80 + place})), pa_line(none, [0] * 5, word)
+    for place in range(6):
+        raw = [0xC1 if place == at else 0 for at in range(6)]
+        yield "a", attribute(0, zeros_but(24, {place: 0xC1})), pa_line(raw, [0] * 5, 0)
+    every = {place: 0x7F for place in (6, 16, 18, 20, 22)}
+    yield "a", attribute(0, zeros_but(24, every)), pa_line(none, [0] * 5, 0)
+    every = {place: 0x80 for place in (6, 16, 18, 20, 22)}
+    yield "a", attribute(0, zeros_but(24, every)), pa_line(none, [1] * 5, 0)
+    yield "a", attribute(0, bytes(24) + b"\xff" * 230), pa_line(none, [0] * 5, 0)
+    word = 0x0102030405060708
+    yield "a", attribute(0, bytes(8) + word.to_bytes(8, "big")), pa_line(none, [0] * 5, word)
+    # Supplied up to the middle of the word.
+    yield "a", attribute(0, bytes(8) + b"\1\2\3"), pa_line(none, [0] * 5, 0x0102030000000000)
+    # Real values, of POWER9 under OPAL and of a pseries machine.
+    yield "a", bytes.fromhex("1800f63fc7c080f0800000000000000000008000800080008000"), pa_line(
+        [0xF6, 0x3F, 0xC7, 0xC0, 0x80, 0xF0], [1, 1, 1, 1, 1], 0
+    )
+    yield "a", bytes.fromhex(
+        "4200f63fc7c080f080000000000000000000800080008000000080008000800080008000c000800080008000"
+        "800080008000800080008000800080008000800080000000"
+    ), pa_line([0xF6, 0x3F, 0xC7, 0xC0, 0x80, 0xF0], [1, 1, 1, 1, 0], 0)
+
+
+# Extended bus frequency
+
+
+def frequencies():
+    whole = bytes(range(1, 13))
+    for length in range(13):
+        yield "f", whole[:length], "f 0 %d" % 0x0102030405060708 if length == 8 else "f 11 0"
+    for frequency in (0, 1, 512000000, 2**32 - 1, 2**32, 2**63, 2**64 - 1, 0xFEDCBA9876543210):
+        yield "f", frequency.to_bytes(8, "big"), "f 0 %d" % frequency
+
+
+def cases():
+    chance = Chance(SEED)
+    yield from unit_paper_cases()
+    yield from unit_lengths()
+    yield from unit_characters()
+    yield from unit_values()
+    yield from unit_random(chance)
+    yield from unit_writes(chance)
+    yield from sizes_paper_cases("p")
+    yield from sizes_lengths("p", range(73))
+    yield from sizes_edges("p")
+    yield from sizes_random("p", chance, 16)
+    yield from sizes_paper_cases("s")
+    yield from sizes_lengths("s", (1, 4, 5, 60, 61, 63, 64, 65, 67, 68, 69, 72))
+    yield from sizes_edges("s")
+    yield from sizes_random("s", chance, 8)
+    yield from segments_counts()
+    yield from segments_trailing()
+    yield from segments_cut()
+    yield from segments_edges()
+    yield from segments_order()
+    yield from segments_random(chance, 32)
+    yield from attributes_edges("a")
+    yield from attributes_cut("a")
+    yield from attributes_lengths("a", range(1, 31))
+    yield from pa_bits()
+    yield from attributes_random("a", chance, 24)
+    yield from attributes_edges("i")
+    yield from attributes_cut("i")
+    yield from attributes_lengths("i", (1, 2, 3, 4, 6, 7, 8, 16, 23, 24, 25, 30, 100, 128, 253, 254))
+    yield from attributes_random("i", chance, 12)
+    yield from frequencies()
+
+
+def vectors():
+    """(kind, bytes, line) of every case, held to what is expected of it. What two groups share is given once."""
+    seen = set()
+    for kind, data, expected in cases():
+        number, values = ANSWERS[kind](data)
+        line = " ".join(map(str, [kind, number, *values]))
+        if expected is not None and expected not in (line, number):
+            raise ValueError("the model answers %r to %s %s, not %r" % (line, kind, data.hex(), expected))
+        if (kind, data) not in seen:
+            seen.add((kind, data))
+            yield kind, data, line
