@@ -1,9 +1,9 @@
 -- Two refusals of one number are one refusal, so that an outcome's number decides the answer's refusal. Assumes nothing.
-use mathlib.Core.Path.{_≡_, refl, sym, ap, _∙_}
+use mathlib.Core.Path.{_≡_, refl, sym, ap, ap₂, _∙_}
 use mathlib.Core.List.{List, [], _∷_}
 use Prim.Native.Nat.{ℕ}
 use lib.ListN.{getD}
-use Rattle.refusal.specs.Refusal.{numberOf}
+use Rattle.refusal.specs.Refusal.{Outcome, numberOf}
 use Rattle.refusal.specs.declared.Refusal.{Refusal}
 use Rattle.refusal.specs.declared.Refusal.the-variants.{None, TreeLength, Magic, TreeSize, Version, BlockBounds, Token, Name, TooMany, Repeated, NotFound, PropertyForm, OutOfRange, UnknownPhandle, RecordForm, Level, Position, FeatureEnabled, BufferLength, NotAscending, UnitText}
 
@@ -61,3 +61,7 @@ back UnitText = refl
 
 pub same-number : (a b : Refusal) → numberOf a ≡ numberOf b → a ≡ b
 same-number a b e = sym (back a) ∙ ap refusalOf e ∙ back b
+
+-- an answer that is made of a refusal and a value is decided by the number and the value
+pub same-answer : {A B : Type 0} (make : Refusal → A → B) (x y : Refusal) (v w : A) → _≡_ {A = Outcome A} (record { number = numberOf x; value = v }) (record { number = numberOf y; value = w }) → make x v ≡ make y w
+same-answer {A} {B} make x y v w e = ap₂ make (same-number x y (ap (λ (o : Outcome A). o .number) e)) (ap (λ (o : Outcome A). o .value) e)

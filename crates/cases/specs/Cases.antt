@@ -1,0 +1,53 @@
+-- The cases marked P (document 01, "Both sides"), as one list, and what it is for a case to hold.
+use Prim.Native.Nat.{ℕ, _/_, _%_}
+use Prim.Native.String.{String}
+use mathlib.Core.Path.{_≡_}
+use mathlib.Core.List.{List, [], _∷_, _++_}
+use lib.ListN.{length, replicate}
+use Rattle.characters.specs.Characters.{bytes}
+use Rattle.refusal.specs.Refusal.{Outcome, answer, refuse}
+use Rattle.unit.specs.Unit.{readUnit, writeUnit, afterUnit}
+use Rattle.sizes.specs.Sizes.{sizes, noSizes}
+use Rattle.sizes.specs.declared.SizeTable.{SizeTable}
+
+-- the value of a property that is a run of cells
+abbrev pub valueOf : List ℕ → List ℕ
+valueOf [] = []
+valueOf (c ∷ cs) = (c / 16777216) ∷ (c / 65536 % 256) ∷ (c / 256 % 256) ∷ (c % 256) ∷ valueOf cs
+
+pub data Case : Type 0 where
+  writesUnit : (number : ℕ) (text : String) → Case
+  readsUnit : (text : String) (outcome : Outcome ℕ) → Case
+  pageSizes : (exponents : List ℕ) (outcome : Outcome SizeTable) → Case
+
+-- a number is written into a buffer as long as the text; a text is read; cells are read as page sizes
+abbrev pub Holds : Case → Type 0
+Holds (writesUnit n t) =
+    (writeUnit n (length (bytes t)) ≡ answer (length (bytes t))) × (afterUnit n (replicate (length (bytes t)) 0) ≡ bytes t)
+Holds (readsUnit t o) = readUnit (bytes t) ≡ o
+Holds (pageSizes es o) = sizes (valueOf es) ≡ o
+
+abbrev pub AllHold : List Case → Type 0
+AllHold [] = Unit
+AllHold (c ∷ cs) = Holds c × AllHold cs
+
+abbrev pub cases : List Case
+cases =
+    -- "unit 0 is `0`; 255 is `ff`; `FFFFFFFF` is 4,294,967,295; `100000000` is 12; the empty text 20; sixteen zeros read as 0,
+    -- seventeen are 20"
+    writesUnit 0 "0"
+    ∷ writesUnit 255 "ff"
+    ∷ readsUnit "0" (answer 0)
+    ∷ readsUnit "ff" (answer 255)
+    ∷ readsUnit "FFFFFFFF" (answer 4294967295)
+    ∷ readsUnit "100000000" (refuse 0 12)
+    ∷ readsUnit "" (refuse 0 20)
+    ∷ readsUnit "0000000000000000" (answer 0)
+    ∷ readsUnit "00000000000000000" (refuse 0 20)
+    -- "page sizes 12, 16, 24 accepted; 12, 12 is 19; 63 alone accepted, 64 is 12; no bytes 11"
+    ∷ pageSizes (12 ∷ 16 ∷ 24 ∷ []) (answer (record { count = 3; exponents = 12 ∷ 16 ∷ 24 ∷ replicate 13 0 }))
+    ∷ pageSizes (12 ∷ 12 ∷ []) (refuse noSizes 19)
+    ∷ pageSizes (63 ∷ []) (answer (record { count = 1; exponents = 63 ∷ replicate 15 0 }))
+    ∷ pageSizes (64 ∷ []) (refuse noSizes 12)
+    ∷ pageSizes [] (refuse noSizes 11)
+    ∷ []
