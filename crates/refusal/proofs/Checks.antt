@@ -4,10 +4,11 @@ use mathlib.Core.Bool.{Bool, true, false, not}
 use mathlib.Core.Logic.{_⊎_, inl, inr}
 use mathlib.Core.List.{List, [], _∷_, _++_, append-nil}
 use Prim.Native.Nat.{ℕ, suc, zero, _≤_, _<_}
+use lib.ListN.{drop}
 use lib.Dec.{T, le→leb, lt→ltb, eqb, eqb-refl, not-T, eqb→eq}
 use native.Mathlib.Omega.{arith}
 use lib.Arith.{lt→nleb, le→nltb}
-use Rattle.refusal.specs.Refusal.{answer, refuse}
+use Rattle.refusal.specs.Refusal.{answer, refuse, Fault, placed, refuseAt}
 use Rattle.refusal.specs.Checks.{Check, firstFault, faultOf}
 
 -- the first k checks hold, and the next one does not
@@ -20,6 +21,12 @@ Stops (suc k) (c ∷ cs) = T (c .holds) × Stops k cs
 abbrev pub Passes : {F : Type 0} → List (Check F) → Type 0
 Passes [] = Unit
 Passes (c ∷ cs) = T (c .holds) × Passes cs
+
+-- the first k of them hold
+abbrev pub Holds : {F : Type 0} → ℕ → List (Check F) → Type 0
+Holds zero cs = Unit
+Holds (suc k) [] = Unit
+Holds (suc k) (c ∷ cs) = T (c .holds) × Holds k cs
 
 abbrev pub faultAt : {F : Type 0} → F → ℕ → List (Check F) → F
 faultAt d k [] = d
@@ -53,6 +60,12 @@ module _ {F A : Type 0} (refuse : F → A) where
   unfolding firstFault
   passes [] a h = refl
   passes (c ∷ cs) a h = rw (holds-on c cs a (h .0)) (passes cs a (h .1))
+
+  -- where the first k hold, the others decide
+  pub others-decide : (k : ℕ) (cs : List (Check F)) (a : A) → Holds k cs → firstFault refuse cs a ≡ firstFault refuse (drop k cs) a
+  others-decide zero cs a h = refl
+  others-decide (suc k) [] a h = refl
+  others-decide (suc k) (c ∷ cs) a h = holds-on c cs a (h .0) ∙ others-decide k cs a (h .1)
 
   -- all hold, or one refuses
   pub either-way : (cs : List (Check F)) (a : A) → ((firstFault refuse cs a ≡ a) × Passes cs) ⊎ ((f : F) × (firstFault refuse cs a ≡ refuse f))
@@ -145,6 +158,20 @@ outcome-number none value (c ∷ cs) = go (c .holds) refl (outcome-number none v
 -- an outcome that is an answer passed all of its checks
 pub answered : {A : Type 0} (none value : A) (cs : List (Check ℕ)) → Numbered cs → firstFault (refuse none) cs (answer value) .number ≡ 0 → Passes cs
 answered none value cs n e = no-fault-passes cs n (sym (outcome-number none value cs) ∙ e)
+
+-- the same of checks with a place
+abbrev pub NumberedAt : List (Check Fault) → Type 0
+NumberedAt [] = Unit
+NumberedAt (c ∷ cs) = (0 < c .fault .number) × NumberedAt cs
+
+pub answered-at : {A : Type 0} (none value : A) (cs : List (Check Fault)) → NumberedAt cs → firstFault (refuseAt none) cs (placed value) .number ≡ 0 → Passes cs
+unfolding firstFault
+answered-at none value [] n e = tt
+answered-at none value (c ∷ cs) n e = go (c .holds) refl (answered-at none value cs (n .1))
+  where
+    go : (b : Bool) → c .holds ≡ b → (firstFault (refuseAt none) cs (placed value) .number ≡ 0 → Passes cs) → T (c .holds) × Passes cs
+    go true h f = (rw h tt, f (rw (h, firstFault) at e))
+    go false h f = let z : c .fault .number ≡ 0 = rw (h, firstFault) at e in absurd (omega arith)
 
 pub eq→eqb : (m n : ℕ) → m ≡ n → T (eqb m n)
 eq→eqb m n e = rw e (eqb-refl n)

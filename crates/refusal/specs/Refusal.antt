@@ -39,3 +39,25 @@ answer v = record { number = 0; value = v }
 -- "Other refusals return the number and, beside it, zeros."
 abbrev pub refuse : {A : Type 0} → A → ℕ → Outcome A
 refuse zeros n = record { number = n; value = zeros }
+
+-- what is found at a place of a tree: a number of the table, and a byte offset
+pub record Fault : Type 0 where
+  pub number : ℕ
+  pub place : ℕ
+
+abbrev pub fault : ℕ → ℕ → Fault
+fault n p = record { number = n; place = p }
+
+-- what a call with a place answers: a number of the table, a place, and a value
+pub record Placed (A : Type 0) : Type 0 where
+  pub number : ℕ
+  pub place : ℕ
+  pub value : A
+
+-- an answer has place 0
+abbrev pub placed : {A : Type 0} → A → Placed A
+placed v = record { number = 0; place = 0; value = v }
+
+-- "A refused read returns number, place .. and a record with no features"
+abbrev pub refuseAt : {A : Type 0} → A → Fault → Placed A
+refuseAt zeros f = record { number = f .number; place = f .place; value = zeros }

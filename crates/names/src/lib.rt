@@ -1,0 +1,125 @@
+// Names of nodes and properties in a block of bytes: read once, character by character, no further than their limit.
+ghost use mathlib.Core.Path.{_≡_};
+ghost use Rattle.cells.specs.Strings.{textAt};
+ghost use Rattle.names.specs.Names.{nodeNameAt, propertyNameAt, rootNameAt, sameText};
+
+// The most characters of a node name, unit address included.
+pub const MOST_NODE_NAME: usize = 63;
+
+// The most characters of a property name.
+pub const MOST_PROPERTY_NAME: usize = 31;
+
+const AT_SIGN: u8 = 64;
+
+// A name that is as it should be, with its length; or one that is not.
+pub enum NameRead {
+    Good(usize),
+    Bad,
+}
+
+// Where a search for a name's zero byte stops: the block's end, or past the longest name.
+fn search_end(s: &[u8], from: usize, end: usize, most: usize) -> usize {
+    let stop = if s.len() < end { s.len() } else { end };
+    if stop <= from {
+        return from;
+    }
+    if stop - from <= most {
+        return stop;
+    }
+    from + most + 1
+}
+
+// The node name that begins at `from`, in a block that ends at `end`.
+pub fn node_name(s: &[u8], from: usize, end: usize) -> NameRead
+    ensures { λ r. ⌜ r ≡ nodeNameAt (now (s .entry)) from end ⌝ }
+{
+    let stop = search_end(s, from, end, MOST_NODE_NAME);
+    let mut split = false;
+    let mut fresh = true;
+    let mut i = from;
+    while i < stop {
+        let c = s[i];
+        if c == 0 {
+            if fresh {
+                return NameRead::Bad;
+            }
+            return NameRead::Good(i - from);
+        }
+        if c == AT_SIGN {
+            if fresh {
+                return NameRead::Bad;
+            }
+            if split {
+                return NameRead::Bad;
+            }
+            split = true;
+            fresh = true;
+        } else {
+            if !characters::is_node_character(c) {
+                return NameRead::Bad;
+            }
+            fresh = false;
+        }
+        i += 1;
+    }
+    NameRead::Bad
+}
+
+// The property name that begins at `from`, in a block that ends at `end`.
+pub fn property_name(s: &[u8], from: usize, end: usize) -> NameRead
+    ensures { λ r. ⌜ r ≡ propertyNameAt (now (s .entry)) from end ⌝ }
+{
+    let stop = search_end(s, from, end, MOST_PROPERTY_NAME);
+    let mut i = from;
+    while i < stop {
+        let c = s[i];
+        if c == 0 {
+            if i == from {
+                return NameRead::Bad;
+            }
+            return NameRead::Good(i - from);
+        }
+        if !characters::is_property_character(c) {
+            return NameRead::Bad;
+        }
+        i += 1;
+    }
+    NameRead::Bad
+}
+
+// Whether the name that begins at `from`, in a block that ends at `end`, is empty, as the root's is.
+pub fn root_name(s: &[u8], from: usize, end: usize) -> bool
+    ensures { λ r. ⌜ r ≡ rootNameAt (now (s .entry)) from end ⌝ }
+{
+    if end <= from {
+        return false;
+    }
+    if s.len() <= from {
+        return false;
+    }
+    s[from] == 0
+}
+
+// Whether the names that begin at `p` and at `q`, in a block that ends at `end`, are the same characters.
+pub fn same_name(s: &[u8], p: usize, q: usize, end: usize) -> bool
+    ensures { λ r. ⌜ r ≡ sameText (textAt (now (s .entry)) p end) (textAt (now (s .entry)) q end) ⌝ }
+{
+    let stop = if s.len() < end { s.len() } else { end };
+    let mut i = p;
+    let mut j = q;
+    while i < stop {
+        if stop <= j {
+            return false;
+        }
+        let c = s[i];
+        if c != s[j] {
+            return false;
+        }
+        if c == 0 {
+            return true;
+        }
+        i += 1;
+        j += 1;
+    }
+    false
+}
