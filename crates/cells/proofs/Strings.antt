@@ -8,45 +8,87 @@ use native.Mathlib.Omega.{arith}
 use native.Mathlib.Numerals.{add-one}
 use borrow.Author.Tests.{eq-eqb, ne-eqb, eqb-true, eqb-false}
 use lib.Dec.{eqb}
-use lib.ListN.{getD, length, take, drop, drop-of-length-le, length-append, length-take}
-use lib.Seq.{drop-cons, take-nil, take-suc, take-all, getD-append-seam, take-append-seam}
+use lib.ListN.{getD, length, take, drop, drop-of-length-le, length-append, length-take, length-drop}
+use lib.Seq.{drop-cons, take-nil, take-suc, take-all, getD-append-seam, take-append-seam, take-take}
 use Rattle.cells.specs.declared.Ending.{Ending}
 use Rattle.cells.specs.declared.Ending.the-variants.{At, Nowhere}
 use Rattle.cells.specs.Strings.{Text, ended, unended, onto, textOf, textAt, endingOf, sameBytes, isString}
 
--- a string, byte by byte
+-- a string in a block, byte by byte
 module _ (s : List ℕ) (end i : ℕ) where
-  cons-at : i < length s → i < end → take (end - i) (drop i s) ≡ getD s i 0 ∷ take (end - (i + 1)) (drop (i + 1) s)
-  cons-at h k = let e : end - i ≡ suc (end - (i + 1)) = omega arith in rw (e, drop-cons s i 0 h, add-one i)
-
-  none-at : min (length s) end ≤ i → take (end - i) (drop i s) ≡ []
-  none-at h = go (end - i) refl
+  pub text-none : min (length s) end ≤ i → textAt s i end ≡ unended
+  unfolding textAt textOf
+  text-none h = ap textOf (go (end - i) refl)
     where
       go : (n : ℕ) → end - i ≡ n → take n (drop i s) ≡ []
       go zero e = refl
       go (suc n) e = let p : length s ≤ i = omega arith in rw (drop-of-length-le s p) (take-nil (suc n))
 
+  cons-at : i < min (length s) end → take (end - i) (drop i s) ≡ getD s i 0 ∷ take (end - (i + 1)) (drop (i + 1) s)
+  cons-at h =
+      let e : end - i ≡ suc (end - (i + 1)) = omega arith in
+      let k : i < length s = omega arith in
+      rw (e, drop-cons s i 0 k, add-one i)
+
+  pub text-empty : i < min (length s) end → getD s i 0 ≡ 0 → textAt s i end ≡ ended []
+  unfolding textAt textOf
+  text-empty h z = rw (cons-at h, eq-eqb (getD s i 0) 0 z, textOf)
+
+  pub text-more : i < min (length s) end → (getD s i 0 ≡ 0 → ⊥) → textAt s i end ≡ onto (getD s i 0) (textAt s (i + 1) end)
+  unfolding textAt textOf
+  text-more h z = rw (cons-at h, ne-eqb (getD s i 0) 0 z, textOf)
+
+  -- where it ends
   pub no-text : min (length s) end ≤ i → endingOf i (textAt s i end) ≡ Nowhere
-  unfolding textAt textOf endingOf
-  no-text h = rw (none-at h)
+  unfolding endingOf
+  no-text h = rw (text-none h)
 
   pub text-ends : i < min (length s) end → getD s i 0 ≡ 0 → endingOf i (textAt s i end) ≡ At i
-  unfolding textAt textOf endingOf
-  text-ends h z =
-      let a : i < length s = omega arith in
-      let b : i < end = omega arith in
-      rw (cons-at a b, eq-eqb (getD s i 0) 0 z, textOf) (rw (add-zero i))
+  unfolding endingOf
+  text-ends h z = rw (text-empty h z) (rw (add-zero i))
 
   pub text-goes-on : i < min (length s) end → (getD s i 0 ≡ 0 → ⊥) → endingOf i (textAt s i end) ≡ endingOf (i + 1) (textAt s (i + 1) end)
-  unfolding textAt textOf endingOf
-  text-goes-on h z =
-      let a : i < length s = omega arith in
-      let b : i < end = omega arith in
-      rw (cons-at a b, ne-eqb (getD s i 0) 0 z, textOf) (go (textOf (take (end - (i + 1)) (drop (i + 1) s))))
+  unfolding endingOf
+  text-goes-on h z = rw (text-more h z) (go (textAt s (i + 1) end))
     where
       go : (t : Text) → endingOf i (onto (getD s i 0) t) ≡ endingOf (i + 1) t
       go (ended cs) = ap At (omega arith)
       go unended = refl
+
+-- a string ends before its block does, and before the bytes do
+shorter : (bs cs : List ℕ) → textOf bs ≡ ended cs → length cs < length bs
+unfolding textOf
+shorter [] cs e = let z : _≡_ {A = ℕ} 0 1 = cc in omega arith
+shorter (b ∷ bs) cs e = go (eqb b 0) (textOf bs) (shorter bs) e
+  where
+    go : (q : Bool) (t : Text) → ((ds : List ℕ) → t ≡ ended ds → length ds < length bs)
+        → (elim q as (λ _. Text) [ true ↦ ended [] | false ↦ onto b t ]) ≡ ended cs → length cs < suc (length bs)
+    go true t f p = let l : cs ≡ [] = cc in omega (arith, ap length l)
+    go false (ended ds) f p = let l : cs ≡ b ∷ ds = cc in omega (arith, ap length l, f ds refl)
+    go false unended f p = let z : _≡_ {A = ℕ} 0 1 = cc in omega arith
+
+pub text-within : (s : List ℕ) (from end : ℕ) (cs : List ℕ) → textAt s from end ≡ ended cs → (from + length cs < end) × (from + length cs < length s)
+unfolding textAt
+text-within s from end cs e =
+    omega (arith, shorter (take (end - from) (drop from s)) cs e, length-take (end - from) (drop from s), length-drop from s)
+
+-- its characters are the bytes from its place on
+taken : (bs cs : List ℕ) → textOf bs ≡ ended cs → take (length cs) bs ≡ cs
+unfolding textOf
+taken [] cs e = let z : _≡_ {A = ℕ} 0 1 = cc in absurd (omega arith)
+taken (b ∷ bs) cs e = go (eqb b 0) (textOf bs) (taken bs) e
+  where
+    go : (q : Bool) (t : Text) → ((ds : List ℕ) → t ≡ ended ds → take (length ds) bs ≡ ds)
+        → (elim q as (λ _. Text) [ true ↦ ended [] | false ↦ onto b t ]) ≡ ended cs → take (length cs) (b ∷ bs) ≡ cs
+    go true t f p = let l : cs ≡ [] = cc in rw l
+    go false (ended ds) f p = let l : cs ≡ b ∷ ds = cc in rw l (ap (λ (xs : List ℕ). b ∷ xs) (f ds refl))
+    go false unended f p = let z : _≡_ {A = ℕ} 0 1 = cc in absurd (omega arith)
+
+pub text-taken : (s : List ℕ) (from end : ℕ) (cs : List ℕ) → textAt s from end ≡ ended cs → take (length cs) (drop from s) ≡ cs
+unfolding textAt
+text-taken s from end cs e =
+    let l : length cs ≤ end - from = omega (arith, shorter (take (end - from) (drop from s)) cs e, length-take (end - from) (drop from s)) in
+    sym (take-take (length cs) (end - from) (drop from s) l) ∙ taken (take (end - from) (drop from s)) cs e
 
 -- the test says whether the runs are equal
 pub same-true : (a b : List ℕ) → sameBytes a b ≡ true → a ≡ b

@@ -1,10 +1,10 @@
 -- Node names and property names (document 01, "The walk").
-use Prim.Native.Nat.{ℕ, suc, _+_}
+use Prim.Native.Nat.{ℕ, suc}
 use mathlib.Core.Bool.{Bool, true, false, not}
 use mathlib.Core.List.{List, [], _∷_}
 use lib.Dec.{eqb, leb}
 use lib.ListN.{length}
-use Rattle.characters.specs.Characters.{bytes, placeOf, isNodeCharacter, isPropertyCharacter}
+use Rattle.characters.specs.Characters.{isNodeCharacter, isPropertyCharacter}
 use Rattle.cells.specs.Strings.{Text, ended, unended, sameBytes, textAt}
 use Rattle.names.specs.declared.NameRead.{NameRead}
 use Rattle.names.specs.declared.NameRead.the-variants.{Good, Bad}

@@ -1,5 +1,7 @@
 // Names of nodes and properties in a block of bytes: read once, character by character, no further than their limit.
 ghost use mathlib.Core.Path.{_≡_};
+ghost use Prim.Native.Nat.{_+_, min};
+ghost use lib.ListN.{length};
 ghost use Rattle.cells.specs.Strings.{textAt};
 ghost use Rattle.names.specs.Names.{nodeNameAt, propertyNameAt, rootNameAt, sameText};
 
@@ -17,11 +19,19 @@ pub enum NameRead {
     Bad,
 }
 
+fn least(a: usize, b: usize) -> usize
+    ensures { λ r. ⌜ r ≡ min a b ⌝ }
+{
+    if a < b { a } else { b }
+}
+
 // Where a search for a name's zero byte stops: the block's end, or past the longest name.
-fn search_end(s: &[u8], from: usize, end: usize, most: usize) -> usize {
-    let stop = if s.len() < end { s.len() } else { end };
+fn search_end(s: &[u8], from: usize, end: usize, most: usize) -> usize
+    ensures { λ r. ⌜ r ≡ min (min (length (now (s .entry))) end) (from + most + 1) ⌝ }
+{
+    let stop = least(s.len(), end);
     if stop <= from {
-        return from;
+        return stop;
     }
     if stop - from <= most {
         return stop;
@@ -29,7 +39,8 @@ fn search_end(s: &[u8], from: usize, end: usize, most: usize) -> usize {
     from + most + 1
 }
 
-// The node name that begins at `from`, in a block that ends at `end`.
+// The node name that begins at `from`, in a block that ends at `end`. Each part, before and behind the `@`, is `fresh`
+// until it has a character.
 pub fn node_name(s: &[u8], from: usize, end: usize) -> NameRead
     ensures { λ r. ⌜ r ≡ nodeNameAt (now (s .entry)) from end ⌝ }
 {
@@ -39,27 +50,25 @@ pub fn node_name(s: &[u8], from: usize, end: usize) -> NameRead
     let mut i = from;
     while i < stop {
         let c = s[i];
+        if characters::is_node_character(c) {
+            fresh = false;
+            i += 1;
+            continue;
+        }
+        if fresh {
+            return NameRead::Bad;
+        }
         if c == 0 {
-            if fresh {
-                return NameRead::Bad;
-            }
             return NameRead::Good(i - from);
         }
-        if c == AT_SIGN {
-            if fresh {
-                return NameRead::Bad;
-            }
-            if split {
-                return NameRead::Bad;
-            }
-            split = true;
-            fresh = true;
-        } else {
-            if !characters::is_node_character(c) {
-                return NameRead::Bad;
-            }
-            fresh = false;
+        if c != AT_SIGN {
+            return NameRead::Bad;
         }
+        if split {
+            return NameRead::Bad;
+        }
+        split = true;
+        fresh = true;
         i += 1;
     }
     NameRead::Bad
@@ -73,14 +82,14 @@ pub fn property_name(s: &[u8], from: usize, end: usize) -> NameRead
     let mut i = from;
     while i < stop {
         let c = s[i];
-        if c == 0 {
+        if !characters::is_property_character(c) {
+            if c != 0 {
+                return NameRead::Bad;
+            }
             if i == from {
                 return NameRead::Bad;
             }
             return NameRead::Good(i - from);
-        }
-        if !characters::is_property_character(c) {
-            return NameRead::Bad;
         }
         i += 1;
     }
@@ -104,18 +113,18 @@ pub fn root_name(s: &[u8], from: usize, end: usize) -> bool
 pub fn same_name(s: &[u8], p: usize, q: usize, end: usize) -> bool
     ensures { λ r. ⌜ r ≡ sameText (textAt (now (s .entry)) p end) (textAt (now (s .entry)) q end) ⌝ }
 {
-    let stop = if s.len() < end { s.len() } else { end };
+    let stop = least(s.len(), end);
     let mut i = p;
     let mut j = q;
     while i < stop {
         if stop <= j {
             return false;
         }
-        let c = s[i];
-        if c != s[j] {
+        let b = s[i];
+        if b != s[j] {
             return false;
         }
-        if c == 0 {
+        if b == 0 {
             return true;
         }
         i += 1;

@@ -1,0 +1,16 @@
+pub mod Lists
+pub mod Standing
+pub mod Sizes
+pub mod ByteRange
+pub mod ItemReading
+pub mod ReadBack
+pub mod Unique
+pub mod NameOffsets
+pub mod Renaming
+pub mod ReadTree
+pub mod AcceptedTokens
+pub mod ReadStands
+pub mod Decoding
+pub mod AcceptedItems
+pub mod NamedItems
+pub mod NopRemoval

@@ -1,0 +1,4 @@
+pub mod Items
+pub mod StringsBlock
+pub mod TreeItems
+pub mod Nops

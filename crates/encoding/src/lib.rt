@@ -1,0 +1,1 @@
+// Encoding of structure items: definitions in specs/, theorems in proofs/. There is no code here.

@@ -1,0 +1,122 @@
+-- Laws of looking back over the properties of a node. Assumes nothing.
+use mathlib.Core.Path.{_≡_, refl, sym, ap, _∙_}
+use mathlib.Core.Bool.{Bool, true, false}
+use mathlib.Core.List.{List, [], _∷_}
+use Prim.Native.Nat.{ℕ, _+_, _<_, _≤_, min}
+use native.Mathlib.Omega.{arith}
+use native.Mathlib.Decide.{decLe}
+use borrow.Author.Tests.{lt-ltb, le-ltb}
+use lib.ListN.{length}
+use Rattle.cells.specs.Strings.{Text, textAt, unended}
+use Rattle.cells.proofs.Strings.{text-none}
+use Rattle.names.specs.Names.{either, sameText, isPropertyName, propertyNameAt}
+use Rattle.names.specs.declared.NameRead.the-variants.{Good, Bad}
+use Rattle.names.proofs.NameLaws.{property-name-good, property-name-bad}
+use Rattle.tokens.specs.declared.Cursor.{Cursor}
+use Rattle.tokens.specs.declared.Step.{Step}
+use Rattle.tokens.specs.declared.Step.the-variants.{BeginNode, EndNode, Property, Nop, End, Fault}
+use Rattle.tokens.specs.Steps.{pick, stepAt}
+use Rattle.tokens.specs.Tokens.{Token, beginNode, endNode, property, nop, end, fault, tokens}
+use Rattle.tokens.proofs.TokenList.{tokens-step, follow, view, Is, begins, ends, holds, skips, stops, cut, unknown, none, property-moves, nop-moves}
+use Rattle.properties.specs.Properties.{nameAt, givenBefore, nameFault}
+
+-- a name whose offset lies past the block does not end
+pub name-placed : (bytes : List ℕ) (from limit offset : ℕ) → textAt bytes (min limit (from + offset)) limit ≡ nameAt bytes from limit offset
+unfolding nameAt
+name-placed bytes from limit offset = go (decLe (from + offset) limit)
+  where
+    go : Dec (from + offset ≤ limit) → textAt bytes (min limit (from + offset)) limit ≡ textAt bytes (from + offset) limit
+    go (yes h) = let e : min limit (from + offset) ≡ from + offset = omega arith in rw e
+    go (no h) =
+        text-none bytes limit (min limit (from + offset)) (omega arith)
+        ∙ sym (text-none bytes limit (from + offset) (omega arith))
+
+module _ (s : List ℕ) (stop : ℕ) (names : ℕ → Text) (t : ℕ) (n : Text) (at : ℕ) where
+  -- nothing is looked at from t on
+  pub none-before : t ≤ at → givenBefore t n (tokens s stop names at) ≡ false
+  unfolding givenBefore
+  none-before h = rw (tokens-step s stop names at refl) (go (view s stop at))
+    where
+      go : {x : Step} → Is s stop at x → givenBefore t n (follow s stop names (tokens s stop names) x) ≡ false
+      go (begins r e) = refl
+      go (ends r e) = refl
+      go (holds r e) = rw (le-ltb at t h)
+      go (skips r e) = rw (le-ltb at t h)
+      go (stops r e) = refl
+      go (cut r e k) = refl
+      go (unknown r a b c d e) = refl
+      go (none r) = refl
+
+  module _ (h : at < t) where
+    pub before-property : {p v l o : ℕ} {c : Cursor} → stepAt s stop at ≡ Property p v l o c
+        → givenBefore t n (tokens s stop names at) ≡ either (sameText (names o) n) (givenBefore t n (tokens s stop names (c .at)))
+    unfolding givenBefore
+    before-property {p} e =
+        let q : p ≡ at = property-moves s stop at e .here in
+        let k : p < t = omega arith in
+        rw (tokens-step s stop names at e, lt-ltb p t k)
+
+    pub before-nop : {p : ℕ} {c : Cursor} → stepAt s stop at ≡ Nop p c
+        → givenBefore t n (tokens s stop names at) ≡ givenBefore t n (tokens s stop names (c .at))
+    unfolding givenBefore
+    before-nop {p} e =
+        let q : p ≡ at = nop-moves s stop at e .here in
+        let k : p < t = omega arith in
+        rw (tokens-step s stop names at e, lt-ltb p t k)
+
+    pub before-begin : {p : ℕ} {c : Cursor} → stepAt s stop at ≡ BeginNode p c → givenBefore t n (tokens s stop names at) ≡ false
+    unfolding givenBefore
+    before-begin e = rw (tokens-step s stop names at e)
+
+    pub before-end-node : {p : ℕ} {c : Cursor} → stepAt s stop at ≡ EndNode p c → givenBefore t n (tokens s stop names at) ≡ false
+    unfolding givenBefore
+    before-end-node e = rw (tokens-step s stop names at e)
+
+    pub before-end : {p : ℕ} → stepAt s stop at ≡ End p → givenBefore t n (tokens s stop names at) ≡ false
+    unfolding givenBefore
+    before-end e = rw (tokens-step s stop names at e)
+
+    pub before-fault : {p : ℕ} → stepAt s stop at ≡ Fault p → givenBefore t n (tokens s stop names at) ≡ false
+    unfolding givenBefore
+    before-fault e = rw (tokens-step s stop names at e)
+
+-- a property whose name is compared at its place
+module _ (s : List ℕ) (stop : ℕ) (bytes : List ℕ) (from limit t : ℕ) (n : Text) (at : ℕ) (h : at < t) where
+  module _ {p v l o : ℕ} {c : Cursor} (e : stepAt s stop at ≡ Property p v l o c) {place : ℕ} {r : Bool} (q : place ≡ min limit (from + o)) (k : r ≡ sameText (textAt bytes place limit) n) where
+    compared : r ≡ sameText (nameAt bytes from limit o) n
+    compared = k ∙ ap (λ (x : ℕ). sameText (textAt bytes x limit) n) q ∙ ap (λ (x : Text). sameText x n) (name-placed bytes from limit o)
+
+    pub before-same : r ≡ true → true ≡ givenBefore t n (tokens s stop (nameAt bytes from limit) at)
+    before-same w =
+        let z : sameText (nameAt bytes from limit o) n ≡ true = sym compared ∙ w in
+        sym (before-property s stop (nameAt bytes from limit) t n at h e ∙ rw z)
+
+    pub before-other : r ≡ false → givenBefore t n (tokens s stop (nameAt bytes from limit) at) ≡ givenBefore t n (tokens s stop (nameAt bytes from limit) (c .at))
+    before-other w =
+        let z : sameText (nameAt bytes from limit o) n ≡ false = sym compared ∙ w in
+        before-property s stop (nameAt bytes from limit) t n at h e ∙ rw z
+
+-- the fault of a name, by what was read of it
+module _ (bytes : List ℕ) (from limit offset : ℕ) {place : ℕ} (q : place ≡ min limit (from + offset)) where
+  here : textAt bytes place limit ≡ nameAt bytes from limit offset
+  here = ap (λ (x : ℕ). textAt bytes x limit) q ∙ name-placed bytes from limit offset
+
+  good-fault : {n : ℕ} (given : Bool) → propertyNameAt bytes place limit ≡ Good n → nameFault (nameAt bytes from limit offset) given ≡ pick given 9 0
+  unfolding nameFault
+  good-fault {n} given e =
+      let g = property-name-good bytes place limit n e in
+      let z : isPropertyName (nameAt bytes from limit offset) ≡ true = ap isPropertyName (sym here ∙ g .text) ∙ g .right in
+      rw z
+
+  -- a good name, which an earlier property has or has not
+  pub name-given : (t : ℕ) (ts : List Token) {n : ℕ} {r given : Bool} → propertyNameAt bytes place limit ≡ Good n → r ≡ givenBefore t (textAt bytes place limit) ts → r ≡ given
+      → pick given 9 0 ≡ nameFault (nameAt bytes from limit offset) (givenBefore t (nameAt bytes from limit offset) ts)
+  name-given t ts {n} {r} {given} e g k =
+      let z : givenBefore t (nameAt bytes from limit offset) ts ≡ given = ap (λ (x : Text). givenBefore t x ts) (sym here) ∙ sym g ∙ k in
+      rw z (sym (good-fault given e))
+
+  pub bad-fault : (given : Bool) → propertyNameAt bytes place limit ≡ Bad → 7 ≡ nameFault (nameAt bytes from limit offset) given
+  unfolding nameFault
+  bad-fault given e =
+      let z : isPropertyName (nameAt bytes from limit offset) ≡ false = ap isPropertyName (sym here) ∙ property-name-bad bytes place limit e in
+      rw z

@@ -1,0 +1,4 @@
+pub mod Walk
+pub mod Containers
+pub mod Checked
+pub mod Parts
