@@ -11,7 +11,8 @@ use Rattle.names.specs.Names.{isNodeName, isPropertyName, isRootName}
 use Rattle.tokens.specs.Steps.{pick}
 use Rattle.tokens.specs.Tokens.{Token, beginNode, endNode, property, nop, end, fault}
 use Rattle.encoding.specs.StringsBlock.{Ended}
-use Rattle.walk.specs.Walk.{State, beforeRoot, inProperties, inChildren, afterRoot, Verdict, accepted, refused, Next, goOn, stop, among, mostLevels, step, walk}
+use Rattle.properties.specs.Properties.{among}
+use Rattle.walk.specs.Walk.{State, beforeRoot, inProperties, inChildren, afterRoot, Verdict, accepted, refused, Next, goOn, stop, mostLevels, step, walk}
 
 -- tokens up to the end token, which is the last cell of a block that ends at e: no fault, and each name ends
 abbrev pub Complete : ℕ → List Token → Type 0

@@ -5,6 +5,7 @@ use mathlib.Core.List.{List}
 use Prim.Native.Nat.{ℕ, _+_}
 use Rattle.cells.specs.Strings.{Text, ended, unended, textAt}
 use Rattle.header.specs.declared.Blocks.{Blocks}
+use Rattle.properties.specs.Properties.{nameAt}
 use Rattle.walk.specs.Walk.{nameIn, treeTokens}
 use Rattle.encoding.specs.Items.{Item, wholeBlock, itemTokens, Each, NotZero, Writable, NotEnd}
 use Rattle.encoding.specs.StringsBlock.{propertyNames, characters, Ended, NameEnds, withCharacters}
@@ -47,7 +48,7 @@ module _ (tree : List ℕ) (b : Blocks) (items : List (Item ℕ)) (is : Structur
   named-not-end = not-end-renamed name-of items (is .notEnd)
 
   pub named-no-zero : Each (Each NotZero) (propertyNames (withCharacters (nameIn tree b) items))
-  unfolding name-of nameIn
+  unfolding name-of nameAt
   named-no-zero =
       rw (names-renamed name-of items)
       (each-map (NameEnds (nameIn tree b)) (Each NotZero) name-of (λ offset h. no-zero tree (b .strings + offset) (b .limit)) (propertyNames items) (is .named))

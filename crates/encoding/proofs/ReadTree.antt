@@ -5,6 +5,7 @@ use Prim.Native.Nat.{ℕ, _+_, _≤_}
 use lib.ListN.{length}
 use Rattle.cells.specs.Strings.{ended}
 use Rattle.header.specs.declared.Blocks.{Blocks}
+use Rattle.properties.specs.Properties.{nameAt}
 use Rattle.walk.specs.Walk.{nameIn, treeTokens}
 use Rattle.encoding.specs.Items.{Item, wholeBlock, itemTokens, Each, NotZero, Writable, NotEnd, Stands}
 use Rattle.encoding.specs.StringsBlock.{stringsBytes, offsetIn, propertyNames, stringsOf, renamed}
@@ -19,7 +20,7 @@ module _ (tree : List ℕ) (b : Blocks) where
   pub names-read : (names : List (List ℕ)) → Each (Each NotZero) names
       → Stands tree (b .strings) (stringsBytes names) → b .strings + length (stringsBytes names) ≤ b .limit
       → (name : List ℕ) → Listed names name → nameIn tree b (offsetIn names name) ≡ ended name
-  unfolding nameIn
+  unfolding nameAt
   names-read names z w r name h = name-read tree (b .limit) name names (b .strings) z w r h
 
   -- a tree whose blocks hold items

@@ -1,4 +1,5 @@
 -- `tokens::padded` meets its contract. Assumes nothing.
+use Rattle.tokens.specs.Steps.{padded as paddedTo}
 use borrow.Author.Needs.{needs}
 use Rattle.tokens.proofs.padded.Statement.{statement}
 use Rattle.tokens.proofs.padded.Tie as tie

@@ -1,4 +1,5 @@
 -- `tokens::property_at` meets its contract. Assumes nothing.
+use Rattle.tokens.specs.Steps.{padded as paddedTo}
 use mathlib.Core.Path.{sym, ap, _∙_}
 use native.Mathlib.Omega.{arith}
 use Rattle.tokens.proofs.Stepping.{property-short, property-cut, property-whole}
