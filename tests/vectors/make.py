@@ -22,9 +22,9 @@ PROGRAM = TESTS.parent / "crates" / "vectors"
 
 sys.path.insert(0, str(TESTS))
 
-from vectors import properties  # noqa: E402 (found by the path above)
+from vectors import damage, lookups, properties, trees  # noqa: E402 (found by the path above)
 
-MODULES = (properties,)
+MODULES = (properties, trees, damage, lookups)
 
 # The most bytes of a vector that the program has room for.
 MOST_BYTES = 70000

@@ -1,6 +1,7 @@
 // A line of output: a buffer, and how many of its bytes are put and not written yet. Each `put_` function takes that
 // number and answers the new one.
 use libc::STDOUT_FILENO;
+use refusal::Refusal;
 
 pub(crate) type Buffer = [u8; 4096];
 
@@ -44,6 +45,12 @@ pub(crate) fn put_number(out: &mut Buffer, used: usize, number: u64) -> usize {
     let length = io::decimal(number, &mut text);
     let at = put_byte(out, used, b' ');
     put_text(out, at, &text[..length])
+}
+
+// Starts a line: its kind and the refusal number.
+pub(crate) fn put_start(out: &mut Buffer, kind: u8, refusal: Refusal) -> usize {
+    let used = put_byte(out, 0, kind);
+    put_number(out, used, refusal::number(refusal) as u64)
 }
 
 // Puts bytes as numbers.

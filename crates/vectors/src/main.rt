@@ -5,6 +5,7 @@
 // come, and its modules list the kinds. Whatever is no vector ends the run with the line `bad vector`.
 mod line;
 mod properties;
+mod trees;
 
 use libc::STDIN_FILENO;
 use libc::STDOUT_FILENO;
@@ -43,6 +44,8 @@ fn answer(out: &mut Buffer, kind: u8, value: &mut [u8]) -> usize {
         b'a' => properties::pa_features(out, value),
         b'i' => properties::pi_features(out, value),
         b'f' => properties::bus_frequency(out, value),
+        b't' => trees::tree(out, value),
+        b'l' => trees::property_lookup(out, value),
         _ => 0,
     }
 }

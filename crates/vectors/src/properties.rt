@@ -5,15 +5,10 @@ use crate::line::put_byte;
 use crate::line::put_bytes;
 use crate::line::put_cells;
 use crate::line::put_number;
-use refusal::Refusal;
+use crate::line::put_start;
 use segments::Descriptor;
 use segments::Page;
 use sizes::Sizes;
-
-fn put_start(out: &mut Buffer, kind: u8, refusal: Refusal) -> usize {
-    let used = put_byte(out, 0, kind);
-    put_number(out, used, refusal::number(refusal) as u64)
-}
 
 pub(crate) fn unit_read(out: &mut Buffer, text: &[u8]) -> usize {
     let read = unit::read_unit(text);
