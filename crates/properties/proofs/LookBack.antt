@@ -1,12 +1,12 @@
--- Laws of looking back over the properties of a node. Assumes nothing.
-use mathlib.Core.Path.{_≡_, refl, sym, ap, _∙_}
+-- Laws of looking back over the properties of a node or block. Assumes nothing.
+use mathlib.Core.Path.{_≡_, refl, sym, ap, subst, _∙_}
 use mathlib.Core.Bool.{Bool, true, false}
-use mathlib.Core.List.{List, [], _∷_}
+use mathlib.Core.List.{List, [], _∷_, _++_}
 use Prim.Native.Nat.{ℕ, _+_, _<_, _≤_, min}
 use native.Mathlib.Omega.{arith}
 use native.Mathlib.Decide.{decLe}
 use borrow.Author.Tests.{lt-ltb, le-ltb}
-use lib.ListN.{length}
+use lib.ListN.{take, drop}
 use Rattle.cells.specs.Strings.{Text, textAt, unended}
 use Rattle.cells.proofs.Strings.{text-none}
 use Rattle.names.specs.Names.{either, sameText, isPropertyName, propertyNameAt}
@@ -18,7 +18,7 @@ use Rattle.tokens.specs.declared.Step.the-variants.{BeginNode, EndNode, Propert
 use Rattle.tokens.specs.Steps.{pick, stepAt}
 use Rattle.tokens.specs.Tokens.{Token, beginNode, endNode, property, nop, end, fault, tokens}
 use Rattle.tokens.proofs.TokenList.{tokens-step, follow, view, Is, begins, ends, holds, skips, stops, cut, unknown, none, property-moves, nop-moves}
-use Rattle.properties.specs.Properties.{nameAt, givenBefore, nameFault}
+use Rattle.properties.specs.Properties.{nameAt, among, givenBefore, nameFault}
 
 -- a name whose offset lies past the block does not end
 pub name-placed : (bytes : List ℕ) (from limit offset : ℕ) → textAt bytes (min limit (from + offset)) limit ≡ nameAt bytes from limit offset
@@ -120,3 +120,72 @@ module _ (bytes : List ℕ) (from limit offset : ℕ) {place : ℕ} (q : place �
   bad-fault given e =
       let z : isPropertyName (nameAt bytes from limit offset) ≡ false = ap isPropertyName (sym here) ∙ property-name-bad bytes place limit e in
       rw z
+
+-- the names of properties among tokens
+unfoldable pub propertyNames : List Token → List Text
+propertyNames [] = []
+propertyNames (beginNode at name ∷ ts) = propertyNames ts
+propertyNames (endNode at ∷ ts) = propertyNames ts
+propertyNames (property at name value ∷ ts) = name ∷ propertyNames ts
+propertyNames (nop at ∷ ts) = propertyNames ts
+propertyNames (end at ∷ ts) = propertyNames ts
+propertyNames (fault at ∷ ts) = propertyNames ts
+
+-- properties and NOPs alone, all before a place
+abbrev pub Plain : ℕ → List Token → Type 0
+Plain at [] = Unit
+Plain at (beginNode a n ∷ ts) = ⊥
+Plain at (endNode a ∷ ts) = ⊥
+Plain at (property a n v ∷ ts) = (a < at) × Plain at ts
+Plain at (nop a ∷ ts) = (a < at) × Plain at ts
+Plain at (end a ∷ ts) = ⊥
+Plain at (fault a ∷ ts) = ⊥
+
+pub plain-on : (at next : ℕ) (ts us : List Token) → at ≤ next → Plain at ts → Plain next us → Plain next (ts ++ us)
+plain-on at next [] us h p q = q
+plain-on at next (property a n v ∷ ts) us h p q = (omega (arith, p .0), plain-on at next ts us h (p .1) q)
+plain-on at next (nop a ∷ ts) us h p q = (omega (arith, p .0), plain-on at next ts us h (p .1) q)
+plain-on at next (beginNode a n ∷ ts) us h p q = absurd p
+plain-on at next (endNode a ∷ ts) us h p q = absurd p
+plain-on at next (end a ∷ ts) us h p q = absurd p
+plain-on at next (fault a ∷ ts) us h p q = absurd p
+
+-- looking back over them finds what is among their names
+look-back : (at : ℕ) (n : Text) (ts : List Token) (m : Text) (v : List ℕ) (us : List Token) → Plain at ts
+    → givenBefore at n (ts ++ property at m v ∷ us) ≡ among n (propertyNames ts)
+unfolding givenBefore among propertyNames
+look-back at n [] m v us p = rw (le-ltb at at (omega arith))
+look-back at n (property a k w ∷ ts) m v us p = rw (lt-ltb a at (p .0)) (ap (either (sameText k n)) (look-back at n ts m v us (p .1)))
+look-back at n (nop a ∷ ts) m v us p = rw (lt-ltb a at (p .0)) (look-back at n ts m v us (p .1))
+look-back at n (beginNode a k ∷ ts) m v us p = absurd p
+look-back at n (endNode a ∷ ts) m v us p = absurd p
+look-back at n (end a ∷ ts) m v us p = absurd p
+look-back at n (fault a ∷ ts) m v us p = absurd p
+
+pub names-snoc : (ts : List Token) (at : ℕ) (n : Text) (v : List ℕ) → propertyNames (ts ++ property at n v ∷ []) ≡ propertyNames ts ++ n ∷ []
+unfolding propertyNames
+names-snoc [] at n v = refl
+names-snoc (beginNode a m ∷ ts) at n v = names-snoc ts at n v
+names-snoc (endNode a ∷ ts) at n v = names-snoc ts at n v
+names-snoc (property a m w ∷ ts) at n v = ap (λ (ms : List Text). m ∷ ms) (names-snoc ts at n v)
+names-snoc (nop a ∷ ts) at n v = names-snoc ts at n v
+names-snoc (end a ∷ ts) at n v = names-snoc ts at n v
+names-snoc (fault a ∷ ts) at n v = names-snoc ts at n v
+
+pub names-nop : (ts : List Token) (at : ℕ) → propertyNames (ts ++ nop at ∷ []) ≡ propertyNames ts
+unfolding propertyNames
+names-nop [] at = refl
+names-nop (beginNode a m ∷ ts) at = names-nop ts at
+names-nop (endNode a ∷ ts) at = names-nop ts at
+names-nop (property a m w ∷ ts) at = ap (λ (ms : List Text). m ∷ ms) (names-nop ts at)
+names-nop (nop a ∷ ts) at = names-nop ts at
+names-nop (end a ∷ ts) at = names-nop ts at
+names-nop (fault a ∷ ts) at = names-nop ts at
+
+-- so where they were read from a place on, the names before a property are those looked back at
+pub among-before : (s : List ℕ) (stop : ℕ) (names : ℕ → Text) (first at : ℕ) (n : Text) (read : List Token) → tokens s stop names first ≡ read ++ tokens s stop names at → Plain at read
+    → {t v l o : ℕ} {c : Cursor} → stepAt s stop at ≡ Property t v l o c → givenBefore t n (tokens s stop names first) ≡ among n (propertyNames read)
+among-before s stop names first at n read split plain {t} {v} {l} {o} {c} e =
+    let m = property-moves s stop at e in
+    ap (givenBefore t n) (split ∙ ap (λ (ts : List Token). read ++ ts) (tokens-step s stop names at e))
+    ∙ look-back t n read (names o) (take l (drop v s)) (tokens s stop names (c .at)) (subst (λ (x : ℕ). Plain x read) (sym (m .here)) plain)

@@ -3,8 +3,8 @@
 // A vector is its kind (one byte), its length (four bytes, big-endian) and that many bytes. Its line has the kind, the
 // refusal number and the numbers of the answer. `tests/vectors/make.py` makes the vectors and the lines that are to
 // come, and its modules list the kinds. Whatever is no vector ends the run with the line `bad vector`.
+mod cpu;
 mod line;
-mod properties;
 mod trees;
 
 use libc::STDIN_FILENO;
@@ -36,14 +36,14 @@ fn bad_vector() -> bool {
 // Puts the line of a vector, without its end, and answers how many bytes are put; 0 if it is no vector.
 fn answer(out: &mut Buffer, kind: u8, value: &mut [u8]) -> usize {
     match kind {
-        b'u' => properties::unit_read(out, value),
-        b'w' => properties::unit_written(out, value),
-        b'p' => properties::page_sizes(out, value),
-        b's' => properties::segment_sizes(out, value),
-        b'g' => properties::segment_page_sizes(out, value),
-        b'a' => properties::pa_features(out, value),
-        b'i' => properties::pi_features(out, value),
-        b'f' => properties::bus_frequency(out, value),
+        b'u' => cpu::unit_read(out, value),
+        b'w' => cpu::unit_written(out, value),
+        b'p' => cpu::page_sizes(out, value),
+        b's' => cpu::segment_sizes(out, value),
+        b'g' => cpu::segment_page_sizes(out, value),
+        b'a' => cpu::pa_features(out, value),
+        b'i' => cpu::pi_features(out, value),
+        b'f' => cpu::bus_frequency(out, value),
         b't' => trees::tree(out, value),
         b'l' => trees::property_lookup(out, value),
         _ => 0,

@@ -24,7 +24,13 @@ fn put_found(out: &mut Buffer, used: usize, which: u64, from: usize, length: usi
     put_number(out, next, length as u64)
 }
 
-fn looked_up(out: &mut Buffer, cpu: &[u8], parent: &[u8], strings: &[u8], name: &[u8]) -> usize {
+fn looked_up<'a>(
+    out: &mut Buffer,
+    cpu: &'a [u8],
+    parent: &'a [u8],
+    strings: &[u8],
+    name: &[u8],
+) -> usize {
     let refusal = lookup::lookup_reason(cpu, parent, strings, name);
     let part = lookup::property_part(cpu, parent, strings, name);
     let length = part.len();

@@ -10,7 +10,7 @@ use lib.ListN.{length, take, drop}
 use Rattle.cells.specs.Strings.{Text, ended, unended, textAt}
 use Rattle.cells.proofs.Strings.{text-taken}
 use Rattle.header.specs.declared.Blocks.{Blocks}
-use Rattle.names.specs.Names.{either, sameText, isNodeName, isPropertyName, nodeNameAt}
+use Rattle.names.specs.Names.{isNodeName, isPropertyName, nodeNameAt}
 use Rattle.names.specs.declared.NameRead.{NameRead}
 use Rattle.names.specs.declared.NameRead.the-variants.{Good, Bad}
 use Rattle.names.proofs.NameLaws.{NameGood, node-name-good, node-name-bad}
@@ -21,6 +21,7 @@ use Rattle.tokens.specs.Steps.{pick, padded, stepAt}
 use Rattle.tokens.specs.Tokens.{Token, beginNode, endNode, property, nop, end, fault, afterName, tokens}
 use Rattle.tokens.proofs.TokenList.{tokens-step, Moves, property-moves, nop-moves, end-node-moves, begin-moves}
 use Rattle.properties.specs.Properties.{nameAt, among, givenBefore, nameFault}
+use Rattle.properties.proofs.LookBack.{propertyNames, Plain, plain-on, names-snoc, names-nop, among-before}
 use Rattle.walk.specs.Walk.{State, inProperties, inChildren, Verdict, refused, goOn, stop, parentOf, mostLevels, step, walk, nameIn, treeTokens}
 use Rattle.walk.specs.declared.Containers.{Containers}
 use Rattle.walk.specs.declared.NodeRead.{NodeRead}
@@ -78,67 +79,6 @@ part-view s b first at early = go (stepAt s (b .end) at) refl
 
 pub part-is : (s : List ℕ) (b : Blocks) (first at : ℕ) (early : Bool) {p : Part} → partAt s b first at early ≡ p → PartIs s b first at early p
 part-is s b first at early e = subst (PartIs s b first at early) e (part-view s b first at early)
-
--- the names of properties among tokens
-unfoldable pub propertyNames : List Token → List Text
-propertyNames [] = []
-propertyNames (beginNode at name ∷ ts) = propertyNames ts
-propertyNames (endNode at ∷ ts) = propertyNames ts
-propertyNames (property at name value ∷ ts) = name ∷ propertyNames ts
-propertyNames (nop at ∷ ts) = propertyNames ts
-propertyNames (end at ∷ ts) = propertyNames ts
-propertyNames (fault at ∷ ts) = propertyNames ts
-
--- properties and NOPs alone, all before a place
-abbrev pub Plain : ℕ → List Token → Type 0
-Plain at [] = Unit
-Plain at (beginNode a n ∷ ts) = ⊥
-Plain at (endNode a ∷ ts) = ⊥
-Plain at (property a n v ∷ ts) = (a < at) × Plain at ts
-Plain at (nop a ∷ ts) = (a < at) × Plain at ts
-Plain at (end a ∷ ts) = ⊥
-Plain at (fault a ∷ ts) = ⊥
-
-plain-on : (at next : ℕ) (ts us : List Token) → at ≤ next → Plain at ts → Plain next us → Plain next (ts ++ us)
-plain-on at next [] us h p q = q
-plain-on at next (property a n v ∷ ts) us h p q = (omega (arith, p .0), plain-on at next ts us h (p .1) q)
-plain-on at next (nop a ∷ ts) us h p q = (omega (arith, p .0), plain-on at next ts us h (p .1) q)
-plain-on at next (beginNode a n ∷ ts) us h p q = absurd p
-plain-on at next (endNode a ∷ ts) us h p q = absurd p
-plain-on at next (end a ∷ ts) us h p q = absurd p
-plain-on at next (fault a ∷ ts) us h p q = absurd p
-
--- looking back over them finds what is among their names
-look-back : (at : ℕ) (n : Text) (ts : List Token) (m : Text) (v : List ℕ) (us : List Token) → Plain at ts
-    → givenBefore at n (ts ++ property at m v ∷ us) ≡ among n (propertyNames ts)
-unfolding givenBefore among propertyNames
-look-back at n [] m v us p = rw (le-ltb at at (omega arith))
-look-back at n (property a k w ∷ ts) m v us p = rw (lt-ltb a at (p .0)) (ap (either (sameText k n)) (look-back at n ts m v us (p .1)))
-look-back at n (nop a ∷ ts) m v us p = rw (lt-ltb a at (p .0)) (look-back at n ts m v us (p .1))
-look-back at n (beginNode a k ∷ ts) m v us p = absurd p
-look-back at n (endNode a ∷ ts) m v us p = absurd p
-look-back at n (end a ∷ ts) m v us p = absurd p
-look-back at n (fault a ∷ ts) m v us p = absurd p
-
-names-snoc : (ts : List Token) (at : ℕ) (n : Text) (v : List ℕ) → propertyNames (ts ++ property at n v ∷ []) ≡ propertyNames ts ++ n ∷ []
-unfolding propertyNames
-names-snoc [] at n v = refl
-names-snoc (beginNode a m ∷ ts) at n v = names-snoc ts at n v
-names-snoc (endNode a ∷ ts) at n v = names-snoc ts at n v
-names-snoc (property a m w ∷ ts) at n v = ap (λ (ms : List Text). m ∷ ms) (names-snoc ts at n v)
-names-snoc (nop a ∷ ts) at n v = names-snoc ts at n v
-names-snoc (end a ∷ ts) at n v = names-snoc ts at n v
-names-snoc (fault a ∷ ts) at n v = names-snoc ts at n v
-
-names-nop : (ts : List Token) (at : ℕ) → propertyNames (ts ++ nop at ∷ []) ≡ propertyNames ts
-unfolding propertyNames
-names-nop [] at = refl
-names-nop (beginNode a m ∷ ts) at = names-nop ts at
-names-nop (endNode a ∷ ts) at = names-nop ts at
-names-nop (property a m w ∷ ts) at = ap (λ (ms : List Text). m ∷ ms) (names-nop ts at)
-names-nop (nop a ∷ ts) at = names-nop ts at
-names-nop (end a ∷ ts) at = names-nop ts at
-names-nop (fault a ∷ ts) at = names-nop ts at
 
 pub notes-append : (c : Containers) (ts us : List Token) → notes c (ts ++ us) ≡ notes (notes c ts) us
 unfolding notes
@@ -210,12 +150,7 @@ module _ {s : List ℕ} {b : Blocks} {level from : ℕ} {seen : Containers} {at 
   -- the names before a property are those looked back at
   among-read : {found : Containers} (g : Inside s b level from seen at true found) {t v l o : ℕ} {c : Cursor} → stepAt s (b .end) at ≡ Property t v l o c
       → givenBefore t (nameIn s b o) (treeTokens s b from) ≡ among (nameIn s b o) (propertyNames (g .read))
-  among-read g {t} {v} {l} {o} {c} e =
-      let m = property-moves s (b .end) at e in
-      let h = tokens-step s (b .end) (nameIn s b) at e in
-      let n = nameIn s b o in
-      ap (givenBefore t n) (g .split ∙ ap (λ (ts : List Token). g .read ++ ts) h)
-      ∙ look-back t n (g .read) n (take l (drop v s)) (treeTokens s b (c .at)) (subst (λ (x : ℕ). Plain x (g .read)) (sym (m .here)) (g .plain refl))
+  among-read g {o = o} e = among-before s (b .end) (nameIn s b) from at (nameIn s b o) (g .read) (g .split) (g .plain refl) e
 
   inside-property : {found : Containers} → Inside s b level from seen at true found → {t v l o : ℕ} {c : Cursor} → stepAt s (b .end) at ≡ Property t v l o c
       → isPropertyName (nameIn s b o) ≡ true → givenBefore t (nameIn s b o) (treeTokens s b from) ≡ false → Inside s b level from seen (c .at) true found
@@ -314,7 +249,7 @@ unfolding step
 deep-step true e level t read n k h = rw (k, le-ltb level mostLevels h)
 deep-step false e level t read n k h = rw (k, le-ltb level mostLevels h)
 
-parent-of : (level : ℕ) → 1 ≤ level → parentOf (level + 1) ≡ inChildren level
+pub parent-of : (level : ℕ) → 1 ≤ level → parentOf (level + 1) ≡ inChildren level
 parent-of level h =
     let a : 1 < level + 1 = omega arith in
     let c : level + 1 - 1 ≡ level = omega arith in

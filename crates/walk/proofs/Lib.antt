@@ -3,3 +3,11 @@ pub mod Fold
 pub mod Flow
 pub mod Outside
 pub mod Whole
+pub mod StepCases
+pub mod Complete
+pub mod Grammar
+pub mod Faults
+pub mod CheckEnds
+pub mod Agreement
+pub mod TotalSize
+pub mod Answers

@@ -1,3 +1,4 @@
+-- `cells::cell_at` meets its contract. Assumes nothing.
 use Rattle.cells.specs.Cells.{cellAt}
 use Rattle.cells.proofs.Cells.{no-cell}
 use mathlib.Core.Path.{sym, _∙_}

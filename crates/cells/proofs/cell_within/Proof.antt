@@ -1,3 +1,4 @@
+-- `cells::cell_within` meets its contract. Assumes nothing.
 use Rattle.cells.specs.Cells.{cellAt}
 use borrow.Author.Needs.{needs}
 use Rattle.cells.proofs.cell_within.Statement.{statement}

@@ -1,3 +1,4 @@
+-- `cells::word_at` meets its contract. Assumes nothing.
 use Rattle.cells.specs.Cells.{wordAt}
 use Rattle.cells.proofs.Cells.{no-word}
 use mathlib.Core.Path.{sym, _∙_}

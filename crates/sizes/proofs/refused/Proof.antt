@@ -1,3 +1,4 @@
+-- `sizes::refused` meets its contract. Assumes nothing.
 use mathlib.Core.Path.{refl}
 use Rattle.sizes.specs.Sizes.{noSizes}
 use Rattle.sizes.proofs.refused.Statement.{statement}

@@ -1,8 +1,8 @@
--- `vectors::properties::put_descriptors` is safe and ends. The measure is how many descriptors are left. Assumes nothing.
+-- `vectors::cpu::put_descriptors` is safe and ends. The measure is how many descriptors are left. Assumes nothing.
 use Prim.Native.Nat.{_≤_, _-_}
 use borrow.Author.Needs.{needs}
-use Rattle.vectors.proofs.properties.put_descriptors.Statement.{statement}
-use Rattle.vectors.proofs.properties.put_descriptors.Tie as tie
+use Rattle.vectors.proofs.cpu.put_descriptors.Statement.{statement}
+use Rattle.vectors.proofs.cpu.put_descriptors.Tie as tie
 
 abbrev Inv-loop : tie.InvT-loop
 Inv-loop out₀ used descriptors at₀ i₀ out at i = i ≤ 8

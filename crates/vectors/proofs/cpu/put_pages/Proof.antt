@@ -1,8 +1,8 @@
--- `vectors::properties::put_pages` is safe and ends. The measure is how many pages are left. Assumes nothing.
+-- `vectors::cpu::put_pages` is safe and ends. The measure is how many pages are left. Assumes nothing.
 use Prim.Native.Nat.{_≤_, _-_}
 use borrow.Author.Needs.{needs}
-use Rattle.vectors.proofs.properties.put_pages.Statement.{statement}
-use Rattle.vectors.proofs.properties.put_pages.Tie as tie
+use Rattle.vectors.proofs.cpu.put_pages.Statement.{statement}
+use Rattle.vectors.proofs.cpu.put_pages.Tie as tie
 
 abbrev Inv-loop : tie.InvT-loop
 Inv-loop out₀ used pages at₀ i₀ out at i = i ≤ 8

@@ -1,0 +1,5 @@
+pub mod Blocks
+pub mod Reading
+pub mod Entries
+pub mod Finding
+pub mod ReturnedPart
