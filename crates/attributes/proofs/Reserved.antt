@@ -1,6 +1,6 @@
 -- "reserved bits and bytes from 24 are ignored": what is handed on depends on the bytes and bits that document 01 names, and on nothing
 -- else. Assumes nothing.
-use mathlib.Core.Path.{_≡_, refl}
+use mathlib.Core.Path.{_≡_}
 use mathlib.Core.List.{List}
 use Prim.Native.Nat.{ℕ, _<_, _≤_}
 use native.Mathlib.Omega.{arith}

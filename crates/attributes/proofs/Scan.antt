@@ -8,7 +8,6 @@ use native.Mathlib.Decide.{ℕ-discrete}
 use borrow.Author.Tests.{lt-ltb, le-ltb}
 use lib.Dec.{leb→le, ltb, ltb→lt}
 use lib.ListN.{length, take, drop, length-append}
-use Rattle.cells.specs.Cells.{byteAt}
 use Rattle.refusal.specs.Refusal.{numberOf, answer, refuse}
 use Rattle.refusal.specs.declared.Refusal.{Refusal}
 use Rattle.refusal.specs.Checks.{Check, firstFault, faultOf}

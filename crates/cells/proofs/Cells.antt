@@ -1,11 +1,10 @@
 -- Laws of cells. Assumes nothing.
-use mathlib.Core.Path.{_≡_, refl}
+use mathlib.Core.Path.{_≡_}
 use Prim.Native.Nat.{ℕ, _+_, _≤_}
 use mathlib.Core.List.{List}
 use native.Mathlib.Omega.{arith}
-use native.Mathlib.Nat.{le-trans}
 use lib.ListN.{length, List·getD-eq-default}
-use Rattle.cells.specs.Cells.{byteAt, cellAt, wordAt}
+use Rattle.cells.specs.Cells.{cellAt, wordAt}
 
 -- past the end all is zero
 module _ (s : List ℕ) (at : ℕ) (past : length s ≤ at) where

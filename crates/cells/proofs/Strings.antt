@@ -6,11 +6,10 @@ use Prim.Native.Nat.{ℕ, suc, zero, _+_, _-_, _<_, _≤_, min}
 use native.Mathlib.Nat.{add-zero}
 use native.Mathlib.Omega.{arith}
 use native.Mathlib.Numerals.{add-one}
-use borrow.Author.Tests.{eq-eqb, ne-eqb, eqb-true, eqb-false}
+use borrow.Author.Tests.{eq-eqb, ne-eqb, eqb-true}
 use lib.Dec.{eqb}
 use lib.ListN.{getD, length, take, drop, drop-of-length-le, length-append, length-take, length-drop}
 use lib.Seq.{drop-cons, take-nil, take-suc, take-all, getD-append-seam, take-append-seam, take-take}
-use Rattle.cells.specs.declared.Ending.{Ending}
 use Rattle.cells.specs.declared.Ending.the-variants.{At, Nowhere}
 use Rattle.cells.specs.Strings.{Text, ended, unended, onto, textOf, textAt, endingOf, sameBytes, isString}
 

@@ -2,13 +2,11 @@
 use mathlib.Core.Path.{_≡_, refl, sym, ap, subst, _∙_}
 use mathlib.Core.Bool.{Bool, true, false}
 use mathlib.Core.List.{List}
-use Prim.Native.Nat.{ℕ, _+_, _-_, _<_, _≤_}
+use Prim.Native.Nat.{ℕ, _+_, _-_, _≤_}
 use native.Mathlib.Omega.{arith}
-use lib.ListN.{length, take, drop}
+use lib.ListN.{length}
 use Rattle.cells.specs.Cells.{cellAt}
-use Rattle.cells.specs.Strings.{Text, ended, unended, textAt, endingOf, sameBytes}
-use Rattle.cells.specs.declared.Ending.the-variants.{At as EndAt, Nowhere}
-use Rattle.cells.proofs.Strings.{text-within, text-taken}
+use Rattle.cells.specs.Strings.{Text, textAt}
 use Rattle.names.specs.Names.{sameText}
 use Rattle.refusal.specs.Refusal.{numberOf}
 use Rattle.refusal.specs.declared.Refusal.{Refusal}
@@ -55,43 +53,8 @@ module _ {hit : Hit} {same r : Bool} (e : hit ≡ Missing) (k : r ≡ same) (fro
   pub hit-other : r ≡ false → Missing ≡ firstHit hit same from to
   hit-other z = rw (e, ← k, z)
 
--- the string at an offset, by where it ends
-module _ (strings : List ℕ) (offset : ℕ) where
-  in-strings : nameIn strings offset ≡ textAt strings offset (length strings)
-  unfolding nameAt
-  in-strings = let e : 0 + offset ≡ offset = omega arith in rw e
-
-  ends-nowhere : (t : Text) → endingOf offset t ≡ Nowhere → t ≡ unended
-  unfolding endingOf
-  ends-nowhere (ended cs) e = let z : _≡_ {A = ℕ} 0 1 = cc in absurd (omega arith)
-  ends-nowhere unended e = refl
-
-  pub unnamed : (name : List ℕ) → endingOf offset (textAt strings offset (length strings)) ≡ Nowhere → false ≡ sameText (nameIn strings offset) (ended name)
-  unfolding sameText
-  unnamed name e = rw (in-strings, ends-nowhere (textAt strings offset (length strings)) e)
-
-  -- its characters, where it ends within the strings block
-  pub record Ends (end : ℕ) : Type 0 where
-    pub characters : List ℕ
-    pub text : textAt strings offset (length strings) ≡ ended characters
-    pub long : end ≡ offset + length characters
-    pub within : end < length strings
-
-  pub ends-at : {end : ℕ} → endingOf offset (textAt strings offset (length strings)) ≡ EndAt end → Ends end
-  unfolding endingOf
-  ends-at {end} e = go (textAt strings offset (length strings)) refl e
-    where
-      go : (t : Text) → textAt strings offset (length strings) ≡ t → endingOf offset t ≡ EndAt end → Ends end
-      go (ended cs) q e =
-          let l : end ≡ offset + length cs = cc in
-          record { characters = cs; text = q; long = l; within = omega (arith, text-within strings offset (length strings) cs q) }
-      go unended q e = let z : _≡_ {A = ℕ} 0 1 = cc in absurd (omega arith)
-
-  pub same-named : (name : List ℕ) {end : ℕ} {r : Bool} → endingOf offset (textAt strings offset (length strings)) ≡ EndAt end
-      → r ≡ sameBytes (take (end - offset) (drop offset strings)) name → r ≡ sameText (nameIn strings offset) (ended name)
-  unfolding sameText
-  same-named name {end} e k =
-      let g = ends-at e in
-      let n : end - offset ≡ length (g .characters) = omega (arith, g .long) in
-      let q : take (end - offset) (drop offset strings) ≡ g .characters = rw n (text-taken strings offset (length strings) (g .characters) (g .text)) in
-      k ∙ rw (q, in-strings, g .text)
+-- the string at an offset of the strings block, compared with a name
+pub named-at : (strings : List ℕ) (offset : ℕ) (name : Text) {r : Bool} → r ≡ sameText (textAt strings offset (length strings)) name
+    → r ≡ sameText (nameIn strings offset) name
+unfolding nameAt
+named-at strings offset name e = let z : 0 + offset ≡ offset = omega arith in rw z e

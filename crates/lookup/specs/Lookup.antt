@@ -1,6 +1,6 @@
 -- Looking a property up in a CPU node's block of properties, then in that of `/cpus` (document 01, "CPU properties and unit text").
 use Prim.Native.Nat.{ℕ, zero, suc, _+_, _-_}
-use mathlib.Core.Bool.{Bool, true, false}
+use mathlib.Core.Bool.{true, false}
 use mathlib.Core.List.{List, [], _∷_, _++_}
 use lib.Dec.{ltb}
 use lib.ListN.{length, take, drop}

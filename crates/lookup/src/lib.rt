@@ -1,5 +1,4 @@
 // A property of a CPU node, looked up in the node's own block of properties and then in that of its parent, `/cpus`.
-use cells::Ending;
 use properties::StringsBlock;
 use refusal::Refusal;
 use tokens::Cursor;
@@ -93,11 +92,7 @@ fn entry_at(block: &[u8], strings: &[u8], at: usize) -> Entry
 fn is_named(strings: &[u8], offset: usize, name: &[u8]) -> bool
     ensures { λ r. ⌜ r ≡ sameText (nameIn (now (strings .entry)) offset) (ended (now (name .entry))) ⌝ }
 {
-    let ending = cells::text_end(strings, offset, strings.len());
-    match ending {
-        Ending::At(end) => cells::same_bytes(&strings[offset..end], name),
-        Ending::Nowhere => false,
-    }
+    names::has_name(strings, offset, strings.len(), name)
 }
 
 // The hit, where a property from `from` to `to` follows, with its name at an offset of the strings block.

@@ -2,14 +2,14 @@
 use mathlib.Core.Path.{_≡_, refl, sym, ap, _∙_}
 use mathlib.Core.Bool.{Bool, true, false}
 use mathlib.Core.List.{List, [], _∷_, _++_, append-assoc}
-use Prim.Native.Nat.{ℕ, suc, zero, _+_, _-_, _<_, _≤_, min}
+use Prim.Native.Nat.{ℕ, suc, _+_, _-_, _<_, _≤_, min}
 use native.Mathlib.Omega.{arith}
 use native.Mathlib.Numerals.{add-one}
 use borrow.Author.Tests.{eq-eqb, ne-eqb, eqb-true, eqb-false}
 use lib.Dec.{eqb}
-use lib.ListN.{getD, length, take, drop, drop-of-length-le, length-take, length-drop}
-use lib.Seq.{drop-cons, take-nil}
-use Rattle.cells.specs.Strings.{Text, ended, unended, onto, textOf, textAt, sameBytes}
+use lib.ListN.{getD, length, drop, drop-of-length-le, length-drop}
+use lib.Seq.{drop-cons}
+use Rattle.cells.specs.Strings.{Text, ended, unended, onto, textAt, sameBytes}
 use Rattle.cells.proofs.Strings.{text-none, text-empty, text-more, same-true, same-refl}
 use Rattle.names.specs.Names.{sameText}
 
@@ -89,3 +89,47 @@ module _ (s : List ℕ) (end i j : ℕ) where
         go false false p q =
             rw (text-more s end i hi (eqb-false (getD s i 0) 0 p), text-more s end j hj (eqb-false (getD s j 0) 0 q))
             (apart-onto (getD s i 0) (getD s j 0) h (textAt s (i + 1) end) (textAt s (j + 1) end))
+
+-- a string in a block has the characters of a name from j on
+unfoldable pub hasFrom : List ℕ → ℕ → ℕ → List ℕ → ℕ → Bool
+hasFrom s end i name j = sameText (textAt s i end) (ended (drop j name))
+
+pub has-whole : (s : List ℕ) (end i : ℕ) (name : List ℕ) → hasFrom s end i name 0 ≡ sameText (textAt s i end) (ended name)
+unfolding hasFrom
+has-whole s end i name = refl
+
+module _ (s : List ℕ) (end i : ℕ) (name : List ℕ) (j : ℕ) where
+  pub named-none : min (length s) end ≤ i → hasFrom s end i name j ≡ false
+  unfolding hasFrom sameText
+  named-none h = rw (text-none s end i h)
+
+  module _ (h : i < min (length s) end) where
+    pub named-ended : getD s i 0 ≡ 0 → j ≤ length name → hasFrom s end i name j ≡ eqb j (length name)
+    unfolding hasFrom
+    named-ended z l = rw (text-empty s end i h z) (go (drop j name) refl)
+      where
+        go : (ds : List ℕ) → drop j name ≡ ds → sameText (ended []) (ended ds) ≡ eqb j (length name)
+        go [] e =
+            let n : j ≡ length name = omega (arith, length-drop j name, ap length e) in
+            same-text-equal [] [] refl ∙ sym (eq-eqb j (length name) n)
+        go (d ∷ ds) e =
+            let n : j ≡ length name → ⊥ = λ q. absurd (omega (arith, length-drop j name, ap length e, q)) in
+            empty-onto d (ended ds) ∙ sym (ne-eqb j (length name) n)
+
+    module _ (z : getD s i 0 ≡ 0 → ⊥) where
+      pub named-longer : length name ≤ j → hasFrom s end i name j ≡ false
+      unfolding hasFrom
+      named-longer l = rw (text-more s end i h z, drop-of-length-le name l) (onto-empty (getD s i 0) (textAt s (i + 1) end))
+
+      pub named-apart : j < length name → (getD s i 0 ≡ getD name j 0 → ⊥) → hasFrom s end i name j ≡ false
+      unfolding hasFrom
+      named-apart l d =
+          rw (text-more s end i h z, drop-cons name j 0 l)
+          (apart-onto (getD s i 0) (getD name j 0) d (textAt s (i + 1) end) (ended (drop (suc j) name)))
+
+      pub named-goes-on : j < length name → getD s i 0 ≡ getD name j 0
+          → hasFrom s end i name j ≡ hasFrom s end (i + 1) name (j + 1)
+      unfolding hasFrom
+      named-goes-on l e =
+          rw (text-more s end i h z, drop-cons name j 0 l, e, add-one j)
+          (same-onto (getD name j 0) (textAt s (i + 1) end) (ended (drop (suc j) name)))

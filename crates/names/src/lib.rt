@@ -2,7 +2,7 @@
 ghost use mathlib.Core.Path.{_≡_};
 ghost use Prim.Native.Nat.{_+_, min};
 ghost use lib.ListN.{length};
-ghost use Rattle.cells.specs.Strings.{textAt};
+ghost use Rattle.cells.specs.Strings.{textAt, ended};
 ghost use Rattle.names.specs.Names.{nodeNameAt, propertyNameAt, rootNameAt, sameText};
 
 // The most characters of a node name, unit address included.
@@ -126,6 +126,30 @@ pub fn same_name(s: &[u8], p: usize, q: usize, end: usize) -> bool
         }
         if b == 0 {
             return true;
+        }
+        i += 1;
+        j += 1;
+    }
+    false
+}
+
+// Whether the name that begins at `from`, in a block that ends at `end`, has exactly some characters.
+pub fn has_name(s: &[u8], from: usize, end: usize, name: &[u8]) -> bool
+    ensures { λ r. ⌜ r ≡ sameText (textAt (now (s .entry)) from end) (ended (now (name .entry))) ⌝ }
+{
+    let stop = least(s.len(), end);
+    let mut i = from;
+    let mut j = 0;
+    while i < stop {
+        let b = s[i];
+        if b == 0 {
+            return j == name.len();
+        }
+        if name.len() <= j {
+            return false;
+        }
+        if b != name[j] {
+            return false;
         }
         i += 1;
         j += 1;

@@ -7,7 +7,7 @@ use native.Mathlib.Omega.{arith}
 use native.Mathlib.Decide.{decLe}
 use borrow.Author.Tests.{lt-ltb, le-ltb}
 use lib.ListN.{take, drop}
-use Rattle.cells.specs.Strings.{Text, textAt, unended}
+use Rattle.cells.specs.Strings.{Text, textAt}
 use Rattle.cells.proofs.Strings.{text-none}
 use Rattle.names.specs.Names.{either, sameText, isPropertyName, propertyNameAt}
 use Rattle.names.specs.declared.NameRead.the-variants.{Good, Bad}

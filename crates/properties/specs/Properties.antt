@@ -1,6 +1,6 @@
 -- The properties of one node or block (document 01, "The walk": "A property name repeated in one node is 9").
 use Prim.Native.Nat.{ℕ, _+_}
-use mathlib.Core.Bool.{Bool, true, false}
+use mathlib.Core.Bool.{Bool, false}
 use mathlib.Core.List.{List, [], _∷_}
 use lib.Dec.{ltb}
 use Rattle.cells.specs.Strings.{Text, textAt}

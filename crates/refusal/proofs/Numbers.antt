@@ -1,6 +1,6 @@
 -- Two refusals of one number are one refusal, so that an outcome's number decides the answer's refusal. Assumes nothing.
 use mathlib.Core.Path.{_≡_, refl, sym, ap, ap₂, _∙_}
-use mathlib.Core.List.{List, [], _∷_}
+use mathlib.Core.List.{[], _∷_}
 use Prim.Native.Nat.{ℕ}
 use lib.ListN.{getD}
 use Rattle.refusal.specs.Refusal.{Outcome, Placed, numberOf}

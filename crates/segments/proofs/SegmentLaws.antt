@@ -1,6 +1,5 @@
 -- Laws of `ibm,segment-page-sizes`, one for each case of the code. Assumes nothing.
 use mathlib.Core.Path.{_≡_, refl, sym, ap, _∙_}
-use mathlib.Core.Bool.{Bool, true, false}
 use mathlib.Core.List.{List, [], _∷_, _++_, append-assoc, append-nil}
 use Prim.Native.Nat.{ℕ, suc, zero, _+_, _*_, _-_, _<_, _≤_}
 use native.Mathlib.Omega.{arith}
@@ -9,8 +8,8 @@ use borrow.Author.Tests.{lt-ltb, le-ltb}
 use lib.Dec.{T, leb, ltb, leb→le, ltb→lt}
 use lib.ListN.{length, set, length-append}
 use Rattle.refusal.specs.Refusal.{Outcome, answer, refuse}
-use Rattle.refusal.specs.Checks.{Check, check, firstFault, faultOf}
-use Rattle.refusal.proofs.Checks.{Passes, Numbered, stops, holds-on, stops-with, next-decides, no-fault-passes, fault-some, fault-none, tests}
+use Rattle.refusal.specs.Checks.{check, firstFault, faultOf}
+use Rattle.refusal.proofs.Checks.{Numbered, stops, holds-on, stops-with, next-decides, no-fault-passes, fault-some, fault-none, tests}
 use Rattle.cells.specs.Rows.{each, padded}
 use Rattle.sizes.specs.Sizes.{largestExponent}
 use Rattle.segments.specs.Segments.{mostDescriptors, mostPages, baseAt, encodingAt, countAt, pageAt, nextAt, noPage, descriptorAt, pageChecks, exponentChecks, descriptorChecks, checksFrom, descriptorsFrom, segmentChecks, noDescriptor, tableOf, segmentPages}

@@ -1,15 +1,15 @@
 -- Laws of reading ascending sizes, cell by cell: what is left decides the whole. Assumes nothing.
 use mathlib.Core.Path.{_≡_, refl, sym, ap, _∙_}
 use mathlib.Core.Bool.{not}
-use mathlib.Core.List.{List, [], _∷_}
+use mathlib.Core.List.{List}
 use Prim.Native.Nat.{ℕ, suc, zero, _+_, _-_, _%_, _<_, _≤_}
 use native.Mathlib.Omega.{arith}
 use native.Mathlib.Numerals.{add-one}
-use lib.Dec.{T, ltb}
+use lib.Dec.{T}
 use lib.ListN.{length, set, replicate}
 use Rattle.refusal.specs.Refusal.{Outcome, answer, refuse}
 use Rattle.refusal.specs.Checks.{firstFault}
-use Rattle.refusal.proofs.Checks.{holds-on, stops-in, passes-on, stops, tests}
+use Rattle.refusal.proofs.Checks.{holds-on, stops, tests}
 use Rattle.cells.specs.Rows.{each, padded}
 use Rattle.sizes.specs.Sizes.{cell, cellCount, ascends, cellChecks, sizeChecks, noSizes, sizeTable, sizes, mostSizes}
 use Rattle.sizes.specs.declared.SizeTable.{SizeTable}

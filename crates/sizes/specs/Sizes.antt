@@ -1,7 +1,7 @@
 -- `ibm,processor-page-sizes` and `ibm,processor-segment-sizes` (document 01, "CPU properties and unit text").
 use Prim.Native.Nat.{ℕ, zero, suc, _*_, _/_, _%_}
 use mathlib.Core.Bool.{Bool, true}
-use mathlib.Core.List.{List, [], _∷_, _++_}
+use mathlib.Core.List.{List, [], _∷_}
 use lib.Dec.{leb, ltb, eqb}
 use lib.ListN.{length, replicate}
 use Rattle.cells.specs.Cells.{cellAt}

@@ -1,10 +1,9 @@
 -- What the cursor's step is, for each kind of token. Assumes nothing.
-use mathlib.Core.Path.{_≡_, refl, sym, ap, _∙_}
+use mathlib.Core.Path.{_≡_}
 use mathlib.Core.List.{List}
 use Prim.Native.Nat.{ℕ, _+_, _<_, _≤_}
 use borrow.Author.Tests.{le-leb, lt-leb, ne-eqb}
 use Rattle.cells.specs.Cells.{cellAt}
-use Rattle.tokens.specs.declared.Step.{Step}
 use Rattle.tokens.specs.declared.Step.the-variants.{BeginNode, EndNode, Property, Nop, End, Fault}
 use Rattle.tokens.specs.Steps.{cursor, padded, propertyAt, stepAt}
 

@@ -1,7 +1,7 @@
 -- Demand 2, of unit text: "A CPU number written as text reads back as itself; a text read and written again is the same number in its
 -- shortest lower-case form." Assumes nothing.
-use mathlib.Core.Path.{_≡_, refl, sym, ap, subst, _∙_}
-use mathlib.Core.List.{List, [], _∷_, _++_}
+use mathlib.Core.Path.{_≡_, sym, ap, subst}
+use mathlib.Core.List.{List, [], _∷_}
 use Prim.Native.Nat.{ℕ, _+_, _-_, _^_, _<_, _≤_}
 use native.Mathlib.Omega.{arith}
 use lib.Dec.{leb→le}
@@ -11,7 +11,7 @@ use Rattle.refusal.specs.Refusal.{Outcome, answer, refuse}
 use Rattle.refusal.specs.Checks.{Check, check}
 use Rattle.refusal.proofs.Checks.{Passes, answered, passes, tests}
 use Rattle.cells.specs.Buffer.{written}
-use Rattle.unit.specs.Hex.{hexText, digitCount, fits, readHex, writeHex}
+use Rattle.unit.specs.Hex.{hexText, digitCount, fits, writeHex}
 use Rattle.unit.specs.Shortest.{Shortest}
 use Rattle.unit.specs.Unit.{readUnit, writeUnit, afterUnit}
 use Rattle.unit.proofs.Digits.{count-least, after-written}

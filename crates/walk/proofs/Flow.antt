@@ -2,10 +2,9 @@
 use mathlib.Core.Path.{_≡_, refl, sym, ap, subst, _∙_}
 use mathlib.Core.Bool.{Bool, true, false}
 use mathlib.Core.List.{List, [], _∷_, _++_, append-assoc}
-use Prim.Native.Nat.{ℕ, zero, suc, _+_, _*_, _-_, _/_, _<_, _≤_}
+use Prim.Native.Nat.{ℕ, _+_, _*_, _-_, _/_, _<_, _≤_}
 use native.Mathlib.Omega.{arith}
 use borrow.Author.Tests.{lt-ltb, le-ltb}
-use lib.Dec.{ltb}
 use lib.ListN.{length, take, drop}
 use Rattle.cells.specs.Strings.{Text, ended, unended, textAt}
 use Rattle.cells.proofs.Strings.{text-taken}
@@ -18,9 +17,9 @@ use Rattle.tokens.specs.declared.Cursor.{Cursor}
 use Rattle.tokens.specs.declared.Step.{Step}
 use Rattle.tokens.specs.declared.Step.the-variants.{BeginNode, EndNode, Property, Nop, End, Fault}
 use Rattle.tokens.specs.Steps.{pick, padded, stepAt}
-use Rattle.tokens.specs.Tokens.{Token, beginNode, endNode, property, nop, end, fault, afterName, tokens}
-use Rattle.tokens.proofs.TokenList.{tokens-step, Moves, property-moves, nop-moves, end-node-moves, begin-moves}
-use Rattle.properties.specs.Properties.{nameAt, among, givenBefore, nameFault}
+use Rattle.tokens.specs.Tokens.{Token, beginNode, endNode, property, nop, end, fault, afterName}
+use Rattle.tokens.proofs.TokenList.{tokens-step, property-moves, nop-moves, end-node-moves, begin-moves}
+use Rattle.properties.specs.Properties.{among, givenBefore, nameFault}
 use Rattle.properties.proofs.LookBack.{propertyNames, Plain, plain-on, names-snoc, names-nop, among-before}
 use Rattle.walk.specs.Walk.{State, inProperties, inChildren, Verdict, refused, goOn, stop, parentOf, mostLevels, step, walk, nameIn, treeTokens}
 use Rattle.walk.specs.declared.Containers.{Containers}

@@ -1,9 +1,9 @@
 -- One token of the walk. Assumes nothing.
-use mathlib.Core.Path.{_≡_, refl}
+use mathlib.Core.Path.{_≡_}
 use mathlib.Core.List.{List, _∷_}
 use Prim.Native.Nat.{ℕ}
 use Rattle.tokens.specs.Tokens.{Token}
-use Rattle.walk.specs.Walk.{State, Verdict, Next, goOn, stop, step, walk}
+use Rattle.walk.specs.Walk.{State, Verdict, goOn, stop, step, walk}
 
 module _ (e : ℕ) (q : State) (t : Token) (ts : List Token) where
   pub walk-on : {r : State} → step e q t ≡ goOn r → walk e q (t ∷ ts) ≡ walk e r ts

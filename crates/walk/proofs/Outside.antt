@@ -2,7 +2,7 @@
 use mathlib.Core.Path.{_≡_, refl, sym, ap, subst, _∙_}
 use mathlib.Core.Bool.{Bool, true, false}
 use mathlib.Core.List.{List, [], _∷_, _++_, append-assoc}
-use Prim.Native.Nat.{ℕ, zero, suc, _+_, _<_, _≤_}
+use Prim.Native.Nat.{ℕ, suc, _+_, _<_, _≤_}
 use native.Mathlib.Omega.{arith}
 use borrow.Author.Tests.{eqb-true, eq-eqb, ne-eqb}
 use lib.ListN.{length, take, drop}
@@ -16,13 +16,13 @@ use Rattle.names.specs.Names.{isRootName, rootNameAt}
 use Rattle.tokens.specs.declared.Cursor.{Cursor}
 use Rattle.tokens.specs.declared.Step.the-variants.{BeginNode, EndNode, Property, Nop, End, Fault}
 use Rattle.tokens.specs.Steps.{padded, stepAt}
-use Rattle.tokens.specs.Tokens.{Token, beginNode, endNode, property, nop, end, fault, afterName, tokens}
+use Rattle.tokens.specs.Tokens.{Token, beginNode, endNode, property, nop, end, fault}
 use Rattle.tokens.proofs.TokenList.{Is, stops, seen, tokens-step, nop-moves, begin-moves}
-use Rattle.walk.specs.Walk.{State, beforeRoot, inProperties, afterRoot, Verdict, accepted, refused, goOn, stop, step, walk, nameIn, treeTokens}
+use Rattle.walk.specs.Walk.{State, beforeRoot, inProperties, afterRoot, Verdict, refused, stop, step, walk, nameIn, treeTokens}
 use Rattle.walk.specs.declared.Containers.{Containers}
 use Rattle.walk.specs.declared.NodeRead.{NodeRead}
 use Rattle.walk.specs.declared.NodeRead.the-variants.{Stop}
-use Rattle.walk.specs.Parts.{none, note, notes, Passed, Reads, Ends}
+use Rattle.walk.specs.Parts.{none, notes, Passed, Reads, Ends}
 use Rattle.walk.proofs.Fold.{walk-on, walk-stop}
 use Rattle.walk.proofs.Flow.{notes-append}
 

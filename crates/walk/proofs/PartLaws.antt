@@ -11,12 +11,12 @@ use Rattle.names.specs.Names.{nodeNameAt}
 use Rattle.names.specs.declared.NameRead.the-variants.{Good, Bad}
 use Rattle.tokens.specs.declared.Cursor.{Cursor}
 use Rattle.tokens.specs.declared.Step.the-variants.{BeginNode, EndNode, Property, Nop, End, Fault}
-use Rattle.tokens.specs.Steps.{pick, stepAt}
+use Rattle.tokens.specs.Steps.{stepAt}
 use Rattle.properties.specs.Properties.{givenBefore, nameFault}
 use Rattle.walk.specs.Walk.{nameIn, treeTokens}
 use Rattle.walk.specs.Containers.{containerName}
 use Rattle.walk.specs.declared.Containers.{Containers}
-use Rattle.walk.specs.Parts.{Part, skip, child, close, stopAt, orSkip, propertyPart, childPart, partAt, add, note}
+use Rattle.walk.specs.Parts.{skip, child, close, stopAt, orSkip, propertyPart, childPart, partAt, note}
 
 -- the fault of a name, or what follows the property
 or-stop : (n m t next : ℕ) → n ≡ m → (n ≡ 0 → ⊥) → stopAt n t ≡ orSkip m t next

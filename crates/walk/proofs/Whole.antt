@@ -4,7 +4,7 @@ use mathlib.Core.Bool.{Bool, true, false}
 use mathlib.Core.List.{List, [], _∷_, _++_, append-assoc, append-nil}
 use Prim.Native.Nat.{ℕ, zero, suc, _+_, min}
 use native.Mathlib.Omega.{arith}
-use lib.ListN.{length, getD}
+use lib.ListN.{length}
 use Rattle.refusal.specs.Refusal.{numberOf, Placed, placed, refuseAt, fault}
 use Rattle.cells.specs.Strings.{ended, unended, sameBytes}
 use Rattle.names.specs.Names.{sameText}
@@ -21,7 +21,7 @@ use Rattle.walk.specs.declared.NodeRead.the-variants.{Past, Stop}
 use Rattle.walk.specs.Checked.{layoutOf, noLayout, judge, afterHeader, checkTree}
 use Rattle.walk.specs.declared.Containers.{Containers}
 use Rattle.walk.specs.declared.Layout.{Layout}
-use Rattle.walk.specs.Parts.{none, add, note, notes, Passed, Reads, verdict, Ends, outcome, Closes}
+use Rattle.walk.specs.Parts.{none, add, notes, Passed, Reads, Ends, outcome, Closes}
 use Rattle.walk.proofs.Flow.{notes-append}
 
 -- the containers noted are the first two

@@ -1,12 +1,11 @@
 -- The containers of a tree: the nodes of that name, at any level (document 01, "The feature record").
-use Prim.Native.Nat.{ℕ, zero, suc, min}
-use mathlib.Core.Bool.{Bool, true, false}
+use Prim.Native.Nat.{ℕ, min}
+use mathlib.Core.Bool.{true, false}
 use mathlib.Core.List.{List, [], _∷_}
 use lib.ListN.{length, getD}
 use Rattle.characters.specs.Characters.{bytes}
 use Rattle.cells.specs.Strings.{ended}
 use Rattle.names.specs.Names.{sameText}
-use Rattle.tokens.specs.Steps.{pick}
 use Rattle.tokens.specs.Tokens.{Token, beginNode, endNode, property, nop, end, fault}
 use Rattle.walk.specs.declared.Containers.{Containers}
 

@@ -1,10 +1,10 @@
 -- What the parts of the walk's code answer. The promise of `check_tree` rests on `Checked`, not on this file.
-use Prim.Native.Nat.{ℕ, zero, suc, _+_, _*_, _-_, _/_, _<_, _≤_}
+use Prim.Native.Nat.{ℕ, zero, suc, _+_, _*_, _/_, _≤_}
 use mathlib.Core.Path.{_≡_}
-use mathlib.Core.Bool.{Bool, true, false}
+use mathlib.Core.Bool.{Bool}
 use mathlib.Core.List.{List, [], _∷_, _++_}
 use lib.Dec.{eqb}
-use lib.ListN.{length, take, drop}
+use lib.ListN.{length}
 use Rattle.cells.specs.Strings.{ended, unended, sameBytes}
 use Rattle.names.specs.Names.{nodeNameAt}
 use Rattle.names.specs.declared.NameRead.the-variants.{Good, Bad}
@@ -14,7 +14,7 @@ use Rattle.tokens.specs.declared.Step.the-variants.{BeginNode, EndNode, Propert
 use Rattle.tokens.specs.Steps.{pick, stepAt}
 use Rattle.tokens.specs.Tokens.{Token, beginNode, endNode, property, nop, end, fault}
 use Rattle.properties.specs.Properties.{givenBefore, nameFault}
-use Rattle.walk.specs.Walk.{Verdict, accepted, refused, State, inProperties, afterRoot, parentOf, mostLevels, walk, nameIn, treeTokens}
+use Rattle.walk.specs.Walk.{Verdict, accepted, refused, State, afterRoot, walk, nameIn, treeTokens}
 use Rattle.walk.specs.Containers.{containerName}
 use Rattle.walk.specs.declared.Containers.{Containers}
 use Rattle.walk.specs.Checked.{noLayout}

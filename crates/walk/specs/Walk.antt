@@ -1,6 +1,5 @@
 -- The walk over the tokens of a tree (document 01, "The walk"): a fold with a small state.
-use Prim.Native.Nat.{ℕ, zero, suc, _+_, _-_}
-use mathlib.Core.Bool.{Bool, true, false}
+use Prim.Native.Nat.{ℕ, _+_, _-_}
 use mathlib.Core.List.{List, [], _∷_, _++_}
 use lib.Dec.{ltb, eqb}
 use Rattle.cells.specs.Strings.{Text}

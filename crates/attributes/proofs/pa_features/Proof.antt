@@ -1,6 +1,5 @@
 -- `attributes::pa_features` meets its contract. Assumes nothing.
 use mathlib.Core.Path.{refl}
-use mathlib.Core.List.{[]}
 use Rattle.cells.specs.Cells.{wordAt, cellAt}
 use Rattle.attributes.specs.Attributes.{paFeatures, paTable, noAttributes}
 use Rattle.attributes.proofs.Scan.{located-outcome}

@@ -1,8 +1,7 @@
 -- `attributes::pi_features` meets its contract. Assumes nothing.
 use mathlib.Core.Path.{refl}
 use mathlib.Core.List.{[]}
-use Rattle.cells.specs.Cells.{wordAt, cellAt}
-use Rattle.attributes.specs.Attributes.{piFeatures, piTable, noAttributes}
+use Rattle.attributes.specs.Attributes.{piFeatures, piTable}
 use Rattle.attributes.proofs.Scan.{located-outcome}
 use borrow.Author.Needs.{needs}
 use Rattle.attributes.proofs.pi_features.Statement.{statement}

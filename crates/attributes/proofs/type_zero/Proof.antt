@@ -1,13 +1,13 @@
 -- `attributes::type_zero` meets its contract. The loop's invariant is `Scan`. Assumes nothing.
 use borrow.Author.Needs.{needs}
-use mathlib.Core.Path.{refl, sym, _∙_}
+use mathlib.Core.Path.{sym}
 use native.Mathlib.Omega.{arith}
 use Prim.Native.Nat.{_-_}
 use lib.ListN.{length}
 use Rattle.refusal.proofs.Checks.{stops, tests}
 use Rattle.refusal.specs.Checks.{faultOf}
 use Rattle.refusal.specs.declared.Refusal.the-variants.{PropertyForm, OutOfRange, NotFound, Repeated}
-use Rattle.attributes.specs.Attributes.{attributeChecks, descriptorChecks, typeChecks}
+use Rattle.attributes.specs.Attributes.{attributeChecks, descriptorChecks}
 use Rattle.attributes.proofs.Scan.{Scan, scan-none, scan-stops, scan-other, scan-found, found-none, found-two, found-one, refused-part}
 use Rattle.attributes.proofs.type_zero.Statement.{statement}
 use Rattle.attributes.proofs.type_zero.Tie as tie

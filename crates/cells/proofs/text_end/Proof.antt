@@ -1,6 +1,5 @@
 -- `cells::text_end` meets its contract. The loop's invariant: the string from `i` on ends where the whole one does. Assumes nothing.
 use borrow.Author.Needs.{needs}
-use denote.Ref.{now}
 use native.Mathlib.Omega.{arith}
 use mathlib.Core.Path.{_≡_, refl, sym, _∙_}
 use Prim.Native.Nat.{_-_, min}

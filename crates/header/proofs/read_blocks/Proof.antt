@@ -1,9 +1,9 @@
 -- `header::read_blocks` meets its contract: each return is the check that stops there. Assumes nothing.
-use mathlib.Core.Path.{refl, sym, ap, _∙_}
+use mathlib.Core.Path.{sym, _∙_}
 use native.Mathlib.Omega.{arith}
-use Rattle.refusal.specs.Refusal.{fault, placed, refuseAt}
-use Rattle.refusal.proofs.Checks.{stops, passes, others-decide, tests}
-use Rattle.header.specs.Header.{noBlocks, blocksOf, blockChecks, headerChecks, header}
+use Rattle.refusal.specs.Refusal.{fault, refuseAt}
+use Rattle.refusal.proofs.Checks.{stops, passes, tests}
+use Rattle.header.specs.Header.{noBlocks, blocksOf, blockChecks}
 use borrow.Author.Needs.{needs}
 use Rattle.header.proofs.read_blocks.Statement.{statement}
 use Rattle.header.proofs.read_blocks.Tie as tie

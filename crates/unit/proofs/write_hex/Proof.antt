@@ -1,9 +1,8 @@
 -- `unit::write_hex` meets its contract. The loop's invariant is `Writing`. Assumes nothing.
 use borrow.Author.Needs.{needs}
-use denote.Ref.{now}
-use mathlib.Core.Path.{_≡_, refl, sym, ap, _∙_}
+use mathlib.Core.Path.{_≡_, sym, ap, _∙_}
 use native.Mathlib.Omega.{arith}
-use Prim.Native.Nat.{ℕ, _+_, _≤_}
+use Prim.Native.Nat.{_+_, _≤_}
 use lib.ListN.{length}
 use Rattle.refusal.specs.Refusal.{answer, refuse}
 use Rattle.refusal.proofs.Checks.{stops, passes, tests}
