@@ -1,0 +1,21 @@
+-- `record::bit_fits` meets its contract. Assumes nothing.
+use mathlib.Core.Path.{sym, ap}
+use Rattle.record.specs.WellFormed.{bitFits}
+use borrow.Author.Needs.{needs}
+use Rattle.record.proofs.bit_fits.Statement.{statement}
+use Rattle.record.proofs.bit_fits.Tie as tie
+
+enum-told : tie.Need-enum-told
+enum-told c = search needs
+
+enum-known-c : tie.Need-enum-known-c
+enum-known-c c = search needs
+
+returns : tie.Need-returns
+returns c = search needs
+
+returns-2 : tie.Need-returns-2
+returns-2 c = ap (bitFits _) (sym (c .before .c .given .1))
+
+pub bit-fits-spec : {M : Type 1} → statement M
+bit-fits-spec = tie.close (tie.spec enum-told enum-known-c returns returns-2)
