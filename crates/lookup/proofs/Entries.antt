@@ -6,19 +6,16 @@ use Prim.Native.Nat.{ℕ, _+_, _-_, _≤_}
 use native.Mathlib.Omega.{arith}
 use lib.ListN.{length}
 use Rattle.cells.specs.Cells.{cellAt}
-use Rattle.cells.specs.Strings.{Text, textAt}
-use Rattle.names.specs.Names.{sameText}
 use Rattle.refusal.specs.Refusal.{numberOf}
 use Rattle.refusal.specs.declared.Refusal.{Refusal}
 use Rattle.tokens.specs.declared.Cursor.{Cursor}
 use Rattle.tokens.specs.declared.Step.the-variants.{Property}
 use Rattle.tokens.specs.Steps.{padded, stepAt}
 use Rattle.tokens.proofs.TokenList.{Is, holds, seen}
-use Rattle.properties.specs.Properties.{nameAt}
 use Rattle.lookup.specs.declared.Entry.the-variants.{Named, Wrong}
 use Rattle.lookup.specs.declared.Hit.{Hit}
 use Rattle.lookup.specs.declared.Hit.the-variants.{At, Missing}
-use Rattle.lookup.specs.Parts.{nameIn, faultOf, Stands, named, misnamed, firstHit}
+use Rattle.lookup.specs.Parts.{faultOf, Stands, named, misnamed, firstHit}
 
 -- a property lies within its block: a token and two cells, and then its value
 pub record Lies (block : List ℕ) (at t v l o : ℕ) : Type 0 where
@@ -52,9 +49,3 @@ module _ {hit : Hit} {same r : Bool} (e : hit ≡ Missing) (k : r ≡ same) (fro
 
   pub hit-other : r ≡ false → Missing ≡ firstHit hit same from to
   hit-other z = rw (e, ← k, z)
-
--- the string at an offset of the strings block, compared with a name
-pub named-at : (strings : List ℕ) (offset : ℕ) (name : Text) {r : Bool} → r ≡ sameText (textAt strings offset (length strings)) name
-    → r ≡ sameText (nameIn strings offset) name
-unfolding nameAt
-named-at strings offset name e = let z : 0 + offset ≡ offset = omega arith in rw z e

@@ -88,13 +88,6 @@ fn entry_at(block: &[u8], strings: &[u8], at: usize) -> Entry
     }
 }
 
-// Whether the string at an offset of the strings block has exactly the characters of a name.
-fn is_named(strings: &[u8], offset: usize, name: &[u8]) -> bool
-    ensures { λ r. ⌜ r ≡ sameText (nameIn (now (strings .entry)) offset) (ended (now (name .entry))) ⌝ }
-{
-    names::has_name(strings, offset, strings.len(), name)
-}
-
 // The hit, where a property from `from` to `to` follows, with its name at an offset of the strings block.
 fn first_hit(hit: Hit, strings: &[u8], offset: usize, name: &[u8], from: usize, to: usize) -> Hit
     ensures { λ r. ⌜ r ≡ firstHit hit (sameText (nameIn (now (strings .entry)) offset) (ended (now (name .entry)))) from to ⌝ }
@@ -102,7 +95,11 @@ fn first_hit(hit: Hit, strings: &[u8], offset: usize, name: &[u8], from: usize, 
     match hit {
         Hit::At { from: _, to: _ } => hit,
         Hit::Missing => {
-            if is_named(strings, offset, name) {
+            let all = StringsBlock {
+                from: 0,
+                limit: strings.len(),
+            };
+            if properties::is_named(strings, all, offset, name) {
                 Hit::At { from, to }
             } else {
                 Hit::Missing

@@ -31,6 +31,11 @@ name-placed bytes from limit offset = go (decLe (from + offset) limit)
         text-none bytes limit (min limit (from + offset)) (omega arith)
         ∙ sym (text-none bytes limit (from + offset) (omega arith))
 
+-- the name at an offset, compared with another
+pub named-placed : (bytes : List ℕ) (from limit offset : ℕ) (name : Text) {place : ℕ} {r : Bool} → place ≡ min limit (from + offset)
+    → r ≡ sameText (textAt bytes place limit) name → r ≡ sameText (nameAt bytes from limit offset) name
+named-placed bytes from limit offset name e k = k ∙ ap (λ (t : Text). sameText t name) (rw e (name-placed bytes from limit offset))
+
 module _ (s : List ℕ) (stop : ℕ) (names : ℕ → Text) (t : ℕ) (n : Text) (at : ℕ) where
   -- nothing is looked at from t on
   pub none-before : t ≤ at → givenBefore t n (tokens s stop names at) ≡ false

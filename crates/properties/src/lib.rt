@@ -5,7 +5,8 @@ use tokens::Cursor;
 use tokens::Step;
 ghost use mathlib.Core.Path.{_≡_};
 ghost use Prim.Native.Nat.{_+_, min};
-ghost use Rattle.cells.specs.Strings.{textAt};
+ghost use Rattle.cells.specs.Strings.{textAt, ended};
+ghost use Rattle.names.specs.Names.{sameText};
 ghost use Rattle.refusal.specs.Refusal.{numberOf};
 ghost use Rattle.tokens.specs.Tokens.{tokens};
 ghost use Rattle.properties.specs.Properties.{nameAt, givenBefore, nameFault};
@@ -27,6 +28,15 @@ fn name_place(b: StringsBlock, offset: usize) -> usize
         return b.limit;
     }
     b.from + offset
+}
+
+// Whether the name at an offset of the strings block has exactly some characters.
+pub fn is_named(strings: &[u8], b: StringsBlock, offset: usize, name: &[u8]) -> bool
+    ensures { λ r.
+        ⌜ r ≡ sameText (nameAt (now (strings .entry)) (b .from) (b .limit) offset) (ended (now (name .entry))) ⌝ }
+{
+    let limit = b.limit;
+    names::has_name(strings, name_place(b, offset), limit, name)
 }
 
 // Whether a property from `first` on and before `t`, in a block of tokens that ends at `end`, has the name at `place`.

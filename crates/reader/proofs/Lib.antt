@@ -1,0 +1,15 @@
+pub mod Containers
+pub mod Passed
+pub mod Accepted
+pub mod Places
+pub mod Numbered
+pub mod Faults
+pub mod Ends
+pub mod Accepts
+pub mod Cells
+pub mod Carriers
+pub mod Slots
+pub mod Dependencies
+pub mod Formed
+pub mod Example
+pub mod ValueLaws
