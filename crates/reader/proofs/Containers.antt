@@ -13,7 +13,6 @@ use Rattle.tokens.specs.Tokens.{Token, beginNode, endNode, property, nop, end, 
 use Rattle.walk.specs.Containers.{containerName, containerOffsets, firstTwo}
 use Rattle.walk.specs.Checked.{layoutOf, checkTree}
 use Rattle.walk.specs.Faults.{allTokens, CheckEnds, answered, headerRefused, walkRefused}
-use Rattle.walk.specs.Grammar.{withoutNopTokens}
 use Rattle.walk.specs.declared.Layout.{Layout}
 use Rattle.walk.proofs.CheckEnds.{check-ends}
 use Rattle.reader.specs.Nodes.{Node, node, nodesNamed}
@@ -23,13 +22,13 @@ use Rattle.reader.specs.Reading.{containersOf}
 abbrev pub offsets : List Node → List ℕ
 offsets ns = map (λ (n : Node). n .at) ns
 
-pub containers-agree : (ts : List Token) → offsets (nodesNamed containerName (withoutNopTokens ts)) ≡ containerOffsets ts
-unfolding withoutNopTokens nodesNamed containerOffsets
+pub containers-agree : (ts : List Token) → offsets (nodesNamed containerName ts) ≡ containerOffsets ts
+unfolding nodesNamed containerOffsets
 containers-agree [] = refl
 containers-agree (beginNode at name ∷ ts) = go (sameText name (ended containerName)) (containers-agree ts)
   where
-    go : (b : Bool) → offsets (nodesNamed containerName (withoutNopTokens ts)) ≡ containerOffsets ts
-        → offsets (pick b (node at name (withoutNopTokens ts) ∷ nodesNamed containerName (withoutNopTokens ts)) (nodesNamed containerName (withoutNopTokens ts)))
+    go : (b : Bool) → offsets (nodesNamed containerName ts) ≡ containerOffsets ts
+        → offsets (pick b (node at name ts ∷ nodesNamed containerName ts) (nodesNamed containerName ts))
         ≡ (elim b as (λ _. List ℕ) [ true ↦ at ∷ containerOffsets ts | false ↦ containerOffsets ts ])
     go true h = ap (λ (l : List ℕ). at ∷ l) h
     go false h = h

@@ -13,7 +13,6 @@ use Rattle.properties.specs.Properties.{nameAt, among}
 use Rattle.walk.specs.Checked.{layoutOf, checkTree}
 use Rattle.walk.specs.Walk.{step, walk}
 use Rattle.walk.specs.Containers.{containerOffsets, firstTwo}
-use Rattle.walk.specs.Grammar.{withoutNopTokens}
 use Rattle.positions.specs.Bits.{bit}
 use Rattle.reader.specs.Features.{inOrder, some, featureChecks, givenWord, featureOf}
 use Rattle.reader.specs.Reading.{nodeAt, readChecks, recordOf, readRecord}
@@ -23,5 +22,5 @@ use Rattle.reader.specs.Values.{valueIn}
 use Rattle.reader.specs.Nodes.{nodesNamed, childrenAt}
 
 pub example-read : readRecord exampleTree ≡ placed exampleRecord
-unfolding firstFault isNodeCharacter isPropertyCharacter cellAt textOf textAt sameBytes isString every atSigns firstIsPlain lastIsPlain nodeCharacters isNodeName isPropertyName isRootName sameText blockChecks headerChecks blocksOf header tokensFrom tokens padded propertyAt stepAt nameAt among layoutOf checkTree step walk containerOffsets firstTwo withoutNopTokens bit inOrder some featureChecks givenWord featureOf nodeAt readChecks recordOf readRecord exampleTree exampleRecord carrierFrom cellChecks carrierChecks slotsOf valueIn nodesNamed childrenAt
+unfolding firstFault isNodeCharacter isPropertyCharacter cellAt textOf textAt sameBytes isString every atSigns firstIsPlain lastIsPlain nodeCharacters isNodeName isPropertyName isRootName sameText blockChecks headerChecks blocksOf header tokensFrom tokens padded propertyAt stepAt nameAt among layoutOf checkTree step walk containerOffsets firstTwo bit inOrder some featureChecks givenWord featureOf nodeAt readChecks recordOf readRecord exampleTree exampleRecord carrierFrom cellChecks carrierChecks slotsOf valueIn nodesNamed childrenAt
 example-read = refl

@@ -1,4 +1,5 @@
 pub mod Containers
+pub mod Nops
 pub mod Passed
 pub mod Accepted
 pub mod Places

@@ -8,7 +8,6 @@ use Rattle.names.specs.Names.{sameText}
 use Rattle.tokens.specs.Steps.{pick}
 use Rattle.tokens.specs.Tokens.{Token, beginNode, endNode, property, nop, end, fault, tokens}
 use Rattle.walk.specs.Faults.{offsetOf}
-use Rattle.walk.specs.Grammar.{withoutNopTokens}
 use Rattle.walk.proofs.Complete.{tokens-induct}
 use Rattle.reader.specs.Nodes.{Node, node, nodesNamed, childrenAt}
 use Rattle.reader.specs.Reading.{nodeAt}
@@ -31,16 +30,6 @@ module _ (limit : ℕ) where
   node-within [] i h = (omega arith, tt)
   node-within (n ∷ ns) zero h = h .0
   node-within (n ∷ ns) (suc i) h = node-within ns i (h .1)
-
-  without-nops : (ts : List Token) → Tokens ts → Tokens (withoutNopTokens ts)
-  unfolding withoutNopTokens
-  without-nops [] h = tt
-  without-nops (beginNode at name ∷ ts) h = (h .0, without-nops ts (h .1))
-  without-nops (endNode at ∷ ts) h = (h .0, without-nops ts (h .1))
-  without-nops (property at name value ∷ ts) h = (h .0, without-nops ts (h .1))
-  without-nops (nop at ∷ ts) h = without-nops ts (h .1)
-  without-nops (end at ∷ ts) h = (h .0, without-nops ts (h .1))
-  without-nops (fault at ∷ ts) h = (h .0, without-nops ts (h .1))
 
   named-within : (n : List ℕ) (ts : List Token) → Tokens ts → AllWithin (nodesNamed n ts)
   unfolding nodesNamed
@@ -69,7 +58,6 @@ module _ (limit : ℕ) where
   children-within depth (fault at ∷ ts) h = tt
 
   -- those of a name, in the tokens of bytes
-  pub containers-within : (n : List ℕ) (s : List ℕ) (names : ℕ → Text) (at : ℕ) → AllWithin (nodesNamed n (withoutNopTokens (tokens s limit names at)))
+  pub containers-within : (n : List ℕ) (s : List ℕ) (names : ℕ → Text) (at : ℕ) → AllWithin (nodesNamed n (tokens s limit names at))
   containers-within n s names at =
-      named-within n (withoutNopTokens (tokens s limit names at))
-      (without-nops (tokens s limit names at) (tokens-induct s limit names Tokens (λ t f o. (o, tt)) (λ t ts f o r. (o, r)) at))
+      named-within n (tokens s limit names at) (tokens-induct s limit names Tokens (λ t f o. (o, tt)) (λ t ts f o r. (o, r)) at)

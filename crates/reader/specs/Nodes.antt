@@ -1,4 +1,4 @@
--- The nodes of a tree, in a list of its tokens without NOPs.
+-- The nodes of a tree, in a list of its tokens. NOPs are skipped.
 use Prim.Native.Nat.{ℕ, zero, suc}
 use mathlib.Core.List.{List, [], _∷_}
 use Rattle.cells.specs.Strings.{Text, ended}

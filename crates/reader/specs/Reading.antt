@@ -11,7 +11,6 @@ use Rattle.header.specs.declared.Blocks.{Blocks}
 use Rattle.walk.specs.Walk.{treeTokens}
 use Rattle.walk.specs.Containers.{containerName}
 use Rattle.walk.specs.Checked.{checkTree}
-use Rattle.walk.specs.Grammar.{withoutNopTokens}
 use Rattle.walk.specs.declared.Layout.{Layout}
 use Rattle.record.specs.declared.Record.{Record}
 use Rattle.record.specs.Record.{mostFeatures, slotCount, noFeature, noFeatures}
@@ -69,7 +68,7 @@ recordOf container =
 
 -- the containers of a tree
 abbrev pub containersOf : List ℕ → Blocks → List Node
-containersOf tree b = nodesNamed containerName (withoutNopTokens (treeTokens tree b (b .start)))
+containersOf tree b = nodesNamed containerName (treeTokens tree b (b .start))
 
 abbrev pub readAccepted : List ℕ → Blocks → Placed Record
 readAccepted tree b =
