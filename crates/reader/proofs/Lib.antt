@@ -14,3 +14,4 @@ pub mod Dependencies
 pub mod Formed
 pub mod Example
 pub mod ValueLaws
+pub mod BehindLaws

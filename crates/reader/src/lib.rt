@@ -1,13 +1,16 @@
 // The feature record of a tree.
+use cells::Ending;
 use header::Blocks;
 use properties::StringsBlock;
 use tokens::Cursor;
 use tokens::Step;
+ghost use mathlib.Core.Path.{_≡_};
 ghost use Prim.Native.Nat.{_≤_};
 ghost use lib.ListN.{length as length-of};
+ghost use Rattle.cells.specs.Strings.{textAt};
 ghost use Rattle.walk.specs.Walk.{treeTokens};
 ghost use Rattle.reader.specs.Values.{valueIn};
-ghost use Rattle.reader.specs.Parts.{Shows};
+ghost use Rattle.reader.specs.Parts.{Shows, behindOf};
 
 // What a node has of a property: nothing, or where its value begins and how many bytes it has.
 enum Held {
@@ -64,4 +67,15 @@ fn value_of(tree: &[u8], b: Blocks, first: usize, name: &[u8]) -> Held
         }
     }
     Held::Missing
+}
+
+// Where the tokens behind a begin token begin, if its name begins at `from`; the block's end, if the name does not end.
+fn behind(tree: &[u8], end: usize, from: usize) -> usize
+    ensures { λ r. ⌜ r ≡ behindOf from end (textAt (now (tree .entry)) from end) ⌝ }
+{
+    let ending = cells::text_end(tree, from, end);
+    match ending {
+        Ending::At(zero) => from + ((zero - from) / 4 + 1) * 4,
+        Ending::Nowhere => end,
+    }
 }
