@@ -15,3 +15,5 @@ pub mod Formed
 pub mod Example
 pub mod ValueLaws
 pub mod BehindLaws
+pub mod MoveLaws
+pub mod GatherLaws

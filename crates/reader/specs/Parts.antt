@@ -1,13 +1,23 @@
 -- What the parts of the reader's code answer. The promises of the public functions rest on `Reading`, not on this file.
-use Prim.Native.Nat.{ℕ, _+_, _≤_}
+use Prim.Native.Nat.{ℕ, _+_, _≤_, _<_}
 use mathlib.Core.Path.{_≡_}
-use mathlib.Core.List.{List}
-use lib.ListN.{length, take, drop}
-use Rattle.cells.specs.Strings.{Text, ended, unended}
-use Rattle.tokens.specs.Tokens.{afterName}
+use mathlib.Core.Bool.{true, false}
+use mathlib.Core.List.{List, [], _∷_, _++_}
+use lib.ListN.{length, take, drop, getD}
+use Rattle.cells.specs.Strings.{Text, ended, unended, textAt}
+use Rattle.tokens.specs.Tokens.{Token, beginNode, endNode, afterName}
+use Rattle.header.specs.declared.Blocks.{Blocks}
+use Rattle.walk.specs.Walk.{treeTokens}
+use Rattle.record.specs.Record.{mostFeatures}
+use Rattle.reader.specs.declared.Move.{Move}
+use Rattle.reader.specs.declared.Move.the-variants.{Begin, End, Pass, Stop}
+use Rattle.reader.specs.declared.NodePlace.{NodePlace}
+use Rattle.reader.specs.declared.Features.{Features}
 use Rattle.reader.specs.declared.Held.{Held}
 use Rattle.reader.specs.declared.Held.the-variants.{Missing, At}
-use Rattle.reader.specs.Values.{Value, missing, value}
+use Rattle.reader.specs.Nodes.{Node, childrenAt}
+use Rattle.reader.specs.Reading.{nodeAt}
+use Rattle.reader.specs.Values.{Value, missing, value, valueIn}
 
 -- where a value lies in a tree
 pub record Lies (tree : List ℕ) (v : Value) (from size : ℕ) : Type 0 where
@@ -22,3 +32,41 @@ Shows tree v (At from size) = Lies tree v from size
 abbrev pub behindOf : ℕ → ℕ → Text → ℕ
 behindOf from stop (ended name) = afterName from name
 behindOf from stop unended = stop
+
+-- lists of tokens that begin with the same properties and have the same child nodes
+pub record Alike (ts us : List Token) : Type 0 where
+  pub values : (n : List ℕ) → valueIn n ts ≡ valueIn n us
+  pub nodes : (depth : ℕ) → childrenAt depth ts ≡ childrenAt depth us
+
+-- what the token at a place is to the children of a node
+pub data Moved (tree : List ℕ) (b : Blocks) (at : ℕ) : Move → Type 0 where
+  begins : {t next : ℕ} {ts : List Token} → treeTokens tree b at ≡ beginNode t (textAt tree (t + 4) (b .end)) ∷ ts → Alike ts (treeTokens tree b next)
+      → at < next → Moved tree b at (Begin t next)
+  ends : {t next : ℕ} → treeTokens tree b at ≡ endNode t ∷ treeTokens tree b next → at < next → Moved tree b at (End next)
+  passes : {next : ℕ} → ((depth : ℕ) → childrenAt depth (treeTokens tree b at) ≡ childrenAt depth (treeTokens tree b next)) → at < next
+      → Moved tree b at (Pass next)
+  stops : ((depth : ℕ) → childrenAt depth (treeTokens tree b at) ≡ []) → Moved tree b at Stop
+
+abbrev pub noPlace : NodePlace
+noPlace = record { at = 0; behind = 0 }
+
+-- a node's place: its offset, its name, and its values
+pub record IsNode (tree : List ℕ) (b : Blocks) (n : Node) (p : NodePlace) : Type 0 where
+  pub offset : n .at ≡ p .at
+  pub name : n .name ≡ textAt tree (p .at + 4) (b .end)
+  pub values : (name : List ℕ) → valueIn name (n .behind) ≡ valueIn name (treeTokens tree b (p .behind))
+
+-- the places of some nodes
+abbrev pub AreNodes : List ℕ → Blocks → List Node → List NodePlace → Type 0
+AreNodes tree b ns ps = (i : ℕ) → i < length ns → IsNode tree b (nodeAt ns i) (getD ps i noPlace)
+
+-- the first of some nodes, up to 64; and whether there are more
+pub record Gathers (tree : List ℕ) (b : Blocks) (all : List Node) (r : Features) : Type 0 where
+  pub taken : List Node
+  pub others : List Node
+  pub split : all ≡ taken ++ others
+  pub count : r .count ≡ length taken
+  pub few : length taken ≤ mostFeatures
+  pub nodes : AreNodes tree b taken (r .nodes)
+  pub whole : r .more ≡ false → others ≡ []
+  pub over : r .more ≡ true → (length taken ≡ mostFeatures) × ((n : Node) × ((rest : List Node) × (others ≡ n ∷ rest) × (n .at ≡ r .over)))

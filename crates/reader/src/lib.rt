@@ -2,20 +2,45 @@
 use cells::Ending;
 use header::Blocks;
 use properties::StringsBlock;
+use record::MOST_FEATURES;
 use tokens::Cursor;
 use tokens::Step;
 ghost use mathlib.Core.Path.{_≡_};
-ghost use Prim.Native.Nat.{_≤_};
+ghost use Prim.Native.Nat.{_≤_, _<_};
 ghost use lib.ListN.{length as length-of};
 ghost use Rattle.cells.specs.Strings.{textAt};
 ghost use Rattle.walk.specs.Walk.{treeTokens};
+ghost use Rattle.reader.specs.Nodes.{childrenAt};
 ghost use Rattle.reader.specs.Values.{valueIn};
-ghost use Rattle.reader.specs.Parts.{Shows, behindOf};
+ghost use Rattle.reader.specs.Parts.{Shows, behindOf, Moved, Gathers};
 
 // What a node has of a property: nothing, or where its value begins and how many bytes it has.
 enum Held {
     Missing,
     At { from: usize, length: usize },
+}
+
+// A token of a node's contents: a child begins, with where what is behind its begin token begins; a node ends; something else, passed;
+// or there is no more.
+enum Move {
+    Begin { at: usize, next: usize },
+    End(usize),
+    Pass(usize),
+    Stop,
+}
+
+// A node: its begin token's offset, and where the tokens behind it begin.
+struct NodePlace {
+    at: usize,
+    behind: usize,
+}
+
+// The features of a container, in tree order: at most 64, whether there is one more, and where that begins.
+struct Features {
+    count: usize,
+    more: bool,
+    over: usize,
+    nodes: [NodePlace; MOST_FEATURES],
 }
 
 // The value of the property of a name, among those that begin at `first`.
@@ -78,4 +103,85 @@ fn behind(tree: &[u8], end: usize, from: usize) -> usize
         Ending::At(zero) => from + ((zero - from) / 4 + 1) * 4,
         Ending::Nowhere => end,
     }
+}
+
+fn move_at(tree: &[u8], b: Blocks, at: usize) -> Move
+    requires { ⌜ at < b .end ⌝ }
+    ensures { λ r. ⌜ Moved (now (tree .entry)) b at r ⌝ }
+{
+    let end = b.end;
+    let c = Cursor { at };
+    let step = c.step(tree, end);
+    match step {
+        Step::BeginNode { at: t, name } => Move::Begin {
+            at: t,
+            next: behind(tree, end, name.at),
+        },
+        Step::EndNode { at: _, next } => Move::End(next.at),
+        Step::Property {
+            at: _,
+            value: _,
+            length: _,
+            name: _,
+            next,
+        } => Move::Pass(next.at),
+        Step::Nop { at: _, next } => Move::Pass(next.at),
+        Step::End { at: _ } => Move::Stop,
+        Step::Fault { at: _ } => Move::Stop,
+    }
+}
+
+// The direct children of a node whose contents begin at `first`.
+fn features_of(tree: &[u8], b: Blocks, first: usize) -> Features
+    ensures { λ r.
+        ⌜ Gathers (now (tree .entry)) b (childrenAt 0 (treeTokens (now (tree .entry)) b first)) r ⌝ }
+{
+    let none = NodePlace { at: 0, behind: 0 };
+    let mut fs = Features {
+        count: 0,
+        more: false,
+        over: 0,
+        nodes: [none; MOST_FEATURES],
+    };
+    let mut depth: usize = 0;
+    let mut at = first;
+    while at < b.end {
+        let moved = move_at(tree, b, at);
+        match moved {
+            Move::Begin { at: t, next } => {
+                if depth == 0 {
+                    let n = fs.count;
+                    if MOST_FEATURES <= n {
+                        fs.more = true;
+                        fs.over = t;
+                        return fs;
+                    }
+                    fs.nodes[n] = NodePlace {
+                        at: t,
+                        behind: next,
+                    };
+                    fs.count = n + 1;
+                    depth = 1;
+                    at = next;
+                } else {
+                    depth += 1;
+                    at = next;
+                }
+            }
+            Move::End(next) => {
+                if depth == 0 {
+                    return fs;
+                }
+                depth -= 1;
+                at = next;
+            }
+            Move::Pass(next) => {
+                at = next;
+            }
+            Move::Stop => {
+                return fs;
+            }
+        }
+    }
+    fs
 }

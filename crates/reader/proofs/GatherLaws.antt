@@ -1,0 +1,190 @@
+-- Gathering the children of a node, token by token: what is left decides the whole. Assumes nothing.
+use mathlib.Core.Path.{_≡_, refl, sym, ap, _∙_}
+use mathlib.Core.Bool.{true, false}
+use mathlib.Core.List.{List, [], _∷_, _++_, append-assoc}
+use Prim.Native.Nat.{ℕ, zero, suc, _+_, _-_, _<_, _≤_}
+use native.Mathlib.Omega.{arith}
+use native.Mathlib.Numerals.{add-one}
+use native.Mathlib.Decide.{decLt}
+use lib.ListN.{length, getD, set, replicate, length-append, length-set}
+use lib.Seq.{getD-set-same, getD-set-other}
+use Rattle.header.specs.declared.Blocks.{Blocks}
+use Rattle.cells.specs.Strings.{Text, textAt}
+use Rattle.tokens.specs.Tokens.{Token, beginNode, endNode}
+use Rattle.positions.proofs.BelowLaws.{no-way}
+use Rattle.walk.specs.Walk.{nameIn, treeTokens}
+use Rattle.record.specs.Record.{mostFeatures}
+use Rattle.reader.specs.declared.Move.the-variants.{Begin, End, Pass, Stop}
+use Rattle.reader.specs.declared.NodePlace.{NodePlace}
+use Rattle.reader.specs.declared.Features.{Features}
+use Rattle.reader.specs.Nodes.{Node, node, childrenAt}
+use Rattle.reader.specs.Reading.{nodeAt}
+use Rattle.reader.specs.Parts.{Moved, begins, ends, passes, stops, noPlace, IsNode, AreNodes, Gathers}
+use Rattle.reader.proofs.MoveLaws.{children-past}
+
+-- a list with one more node
+node-left : (ns ms : List Node) (i : ℕ) → i < length ns → nodeAt (ns ++ ms) i ≡ nodeAt ns i
+unfolding nodeAt
+node-left [] ms i h = absurd (omega arith)
+node-left (n ∷ ns) ms zero h = refl
+node-left (n ∷ ns) ms (suc i) h = node-left ns ms i (omega arith)
+
+node-seam : (ns : List Node) (n : Node) (ms : List Node) → nodeAt (ns ++ n ∷ ms) (length ns) ≡ n
+unfolding nodeAt
+node-seam [] n ms = refl
+node-seam (m ∷ ns) n ms = node-seam ns n ms
+
+-- the children of a node, by the token that comes first
+children-child : (t : ℕ) (name : Text) (ts : List Token) → childrenAt 0 (beginNode t name ∷ ts) ≡ node t name ts ∷ childrenAt 1 ts
+unfolding childrenAt
+children-child t name ts = refl
+
+children-deeper : (depth t : ℕ) (name : Text) (ts : List Token) → (depth ≡ 0 → ⊥) → childrenAt depth (beginNode t name ∷ ts) ≡ childrenAt (depth + 1) ts
+unfolding childrenAt
+children-deeper zero t name ts z = absurd (z refl)
+children-deeper (suc depth) t name ts z = rw (add-one (suc depth))
+
+children-up : (depth t : ℕ) (ts : List Token) → (depth ≡ 0 → ⊥) → childrenAt depth (endNode t ∷ ts) ≡ childrenAt (depth - 1) ts
+unfolding childrenAt
+children-up zero t ts z = absurd (z refl)
+children-up (suc depth) t ts z = let e : suc depth - 1 ≡ depth = omega arith in rw e
+
+children-end : (t : ℕ) (ts : List Token) → childrenAt 0 (endNode t ∷ ts) ≡ []
+unfolding childrenAt
+children-end t ts = refl
+
+module _ (tree : List ℕ) (b : Blocks) where
+  nodes-more : (ns : List Node) (ps : List NodePlace) (n : Node) (p : NodePlace) → length ns < length ps → AreNodes tree b ns ps → IsNode tree b n p
+      → AreNodes tree b (ns ++ n ∷ []) (set ps (length ns) p)
+  nodes-more ns ps n p room all new i h = go (decLt i (length ns))
+    where
+      go : Dec (i < length ns) → IsNode tree b (nodeAt (ns ++ n ∷ []) i) (getD (set ps (length ns) p) i noPlace)
+      go (yes l) =
+          let e = node-left ns (n ∷ []) i l in
+          let k = getD-set-other ps (length ns) i p noPlace (λ q. absurd (omega arith)) in
+          rw (e, k) (all i l)
+      go (no l) =
+          let q : i ≡ length ns = omega (arith, length-append ns (n ∷ [])) in
+          rw (q, node-seam ns n [], getD-set-same ps (length ns) p noPlace room) new
+
+  -- the children that begin before a place are taken; the tokens from there on have the others
+  pub record Gathering (first : ℕ) (fs : Features) (depth at : ℕ) : Type 0 where
+    pub taken : List Node
+    pub split : childrenAt 0 (treeTokens tree b first) ≡ taken ++ childrenAt depth (treeTokens tree b at)
+    pub count : fs .count ≡ length taken
+    pub few : length taken ≤ mostFeatures
+    pub size : length (fs .nodes) ≡ mostFeatures
+    pub nodes : AreNodes tree b taken (fs .nodes)
+    pub more : fs .more ≡ false
+    pub low : depth ≤ at
+
+  abbrev start : Features
+  start = record { count = 0; more = false; over = 0; nodes = replicate mostFeatures noPlace }
+
+  pub gather-begins : (first : ℕ) → Gathering first start 0 first
+  gather-begins first =
+      record {
+        taken = [];
+        split = refl;
+        count = refl;
+        few = omega arith;
+        size = refl;
+        nodes = λ i h. absurd (omega arith);
+        more = refl;
+        low = omega arith;
+      }
+
+  module _ {first : ℕ} {fs : Features} {depth at : ℕ} (g : Gathering first fs depth at) where
+    abbrev all : List Node
+    all = childrenAt 0 (treeTokens tree b first)
+
+    -- a child begins
+    abbrev with : ℕ → ℕ → ℕ → Features
+    with n t next = record { count = n + 1; more = fs .more; over = fs .over; nodes = set (fs .nodes) n (record { at = t; behind = next }) }
+
+    pub gather-child : {t next : ℕ} → depth ≡ 0 → Moved tree b at (Begin t next) → fs .count < mostFeatures → Gathering first (with (fs .count) t next) 1 next
+    gather-child {t} {next} z (begins {ts = ts} e like on) room =
+        let n = node t (textAt tree (t + 4) (b .end)) ts in
+        let p : NodePlace = record { at = t; behind = next } in
+        let is : IsNode tree b n p = record { offset = refl; name = refl; values = like .values } in
+        let here : childrenAt depth (treeTokens tree b at) ≡ n ∷ childrenAt 1 (treeTokens tree b next) =
+        rw (z, e) (children-child t (n .name) ts ∙ ap (λ (ns : List Node). n ∷ ns) (like .nodes 1)) in
+        record {
+          taken = g .taken ++ n ∷ [];
+          split =
+              g .split
+              ∙ ap (λ (ns : List Node). g .taken ++ ns) here
+              ∙ sym (append-assoc (g .taken) (n ∷ []) (childrenAt 1 (treeTokens tree b next)));
+          count = omega (arith, g .count, length-append (g .taken) (n ∷ []));
+          few = omega (arith, g .count, length-append (g .taken) (n ∷ []));
+          size = length-set (fs .nodes) (fs .count) p ∙ g .size;
+          nodes =
+              rw (g .count) (nodes-more (g .taken) (fs .nodes) n p (omega (arith, g .count, g .size)) (g .nodes) is);
+          more = g .more;
+          low = omega (arith, on);
+        }
+
+    -- the same, where the children taken stay
+    on-with : {d next : ℕ} → childrenAt depth (treeTokens tree b at) ≡ childrenAt d (treeTokens tree b next) → d ≤ next → Gathering first fs d next
+    on-with e l =
+        record {
+          taken = g .taken;
+          split = g .split ∙ ap (λ (ns : List Node). g .taken ++ ns) e;
+          count = g .count;
+          few = g .few;
+          size = g .size;
+          nodes = g .nodes;
+          more = g .more;
+          low = l;
+        }
+
+    pub gather-nested : {t next : ℕ} → (depth ≡ 0 → ⊥) → Moved tree b at (Begin t next) → Gathering first fs (depth + 1) next
+    gather-nested {t} z (begins {ts = ts} e like on) =
+        on-with (rw e (children-deeper depth t (textAt tree (t + 4) (b .end)) ts z) ∙ like .nodes (depth + 1)) (omega (arith, on, g .low))
+
+    pub gather-up : {next : ℕ} → (depth ≡ 0 → ⊥) → Moved tree b at (End next) → Gathering first fs (depth - 1) next
+    gather-up {next} z (ends {t} e on) = on-with (rw e (children-up depth t (treeTokens tree b next) z)) (omega (arith, on, g .low))
+
+    pub gather-pass : {next : ℕ} → Moved tree b at (Pass next) → Gathering first fs depth next
+    gather-pass (passes e on) = on-with (e depth) (omega (arith, on, g .low))
+
+    -- there are no more
+    gathered : childrenAt depth (treeTokens tree b at) ≡ [] → Gathers tree b all fs
+    gathered e =
+        record {
+          taken = g .taken;
+          others = [];
+          split = g .split ∙ ap (λ (ns : List Node). g .taken ++ ns) e;
+          count = g .count;
+          few = g .few;
+          nodes = g .nodes;
+          whole = λ z. refl;
+          over = λ z. no-way (fs .more) z (g .more);
+        }
+
+    pub gathered-end : {next : ℕ} → depth ≡ 0 → Moved tree b at (End next) → Gathers tree b all fs
+    gathered-end {next} z (ends {t} e on) = gathered (rw (z, e) (children-end t (treeTokens tree b next)))
+
+    pub gathered-stop : Moved tree b at Stop → Gathers tree b all fs
+    gathered-stop (stops e) = gathered (e depth)
+
+    pub gathered-past : b .end ≤ at → Gathers tree b all fs
+    gathered-past h = gathered (children-past tree (b .end) (nameIn tree b) at h depth)
+
+    -- there is one more than may be taken
+    abbrev overfull : ℕ → Features
+    overfull t = record { count = fs .count; more = true; over = t; nodes = fs .nodes }
+
+    pub gathered-over : {t next : ℕ} → depth ≡ 0 → Moved tree b at (Begin t next) → mostFeatures ≤ fs .count → Gathers tree b all (overfull t)
+    gathered-over {t} z (begins {ts = ts} e like on) h =
+        let n = node t (textAt tree (t + 4) (b .end)) ts in
+        record {
+          taken = g .taken;
+          others = n ∷ childrenAt 1 ts;
+          split = g .split ∙ ap (λ (ns : List Node). g .taken ++ ns) (rw (z, e) (children-child t (n .name) ts));
+          count = g .count;
+          few = g .few;
+          nodes = g .nodes;
+          whole = λ q. no-way true refl q;
+          over = λ q. (omega (arith, g .count, g .few), (n, (childrenAt 1 ts, refl, refl)));
+        }
