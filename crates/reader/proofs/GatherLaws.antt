@@ -99,13 +99,13 @@ module _ (tree : List ℕ) (b : Blocks) where
     all = childrenAt 0 (treeTokens tree b first)
 
     -- a child begins
-    abbrev with : ℕ → ℕ → ℕ → Features
-    with n t next = record { count = n + 1; more = fs .more; over = fs .over; nodes = set (fs .nodes) n (record { at = t; behind = next }) }
+    abbrev with : ℕ → ℕ → ℕ → ℕ → Features
+    with n t name next = record { count = n + 1; more = fs .more; over = fs .over; nodes = set (fs .nodes) n (record { at = t; name = name; behind = next }) }
 
-    pub gather-child : {t next : ℕ} → depth ≡ 0 → Moved tree b at (Begin t next) → fs .count < mostFeatures → Gathering first (with (fs .count) t next) 1 next
-    gather-child {t} {next} z (begins {ts = ts} e like on) room =
-        let n = node t (textAt tree (t + 4) (b .end)) ts in
-        let p : NodePlace = record { at = t; behind = next } in
+    pub gather-child : {t name next : ℕ} → depth ≡ 0 → Moved tree b at (Begin t name next) → fs .count < mostFeatures → Gathering first (with (fs .count) t name next) 1 next
+    gather-child {t} {name} {next} z (begins {ts = ts} e like on) room =
+        let n = node t (textAt tree name (b .end)) ts in
+        let p : NodePlace = record { at = t; name = name; behind = next } in
         let is : IsNode tree b n p = record { offset = refl; name = refl; values = like .values } in
         let here : childrenAt depth (treeTokens tree b at) ≡ n ∷ childrenAt 1 (treeTokens tree b next) =
         rw (z, e) (children-child t (n .name) ts ∙ ap (λ (ns : List Node). n ∷ ns) (like .nodes 1)) in
@@ -138,9 +138,9 @@ module _ (tree : List ℕ) (b : Blocks) where
           low = l;
         }
 
-    pub gather-nested : {t next : ℕ} → (depth ≡ 0 → ⊥) → Moved tree b at (Begin t next) → Gathering first fs (depth + 1) next
-    gather-nested {t} z (begins {ts = ts} e like on) =
-        on-with (rw e (children-deeper depth t (textAt tree (t + 4) (b .end)) ts z) ∙ like .nodes (depth + 1)) (omega (arith, on, g .low))
+    pub gather-nested : {t name next : ℕ} → (depth ≡ 0 → ⊥) → Moved tree b at (Begin t name next) → Gathering first fs (depth + 1) next
+    gather-nested {t} {name} z (begins {ts = ts} e like on) =
+        on-with (rw e (children-deeper depth t (textAt tree name (b .end)) ts z) ∙ like .nodes (depth + 1)) (omega (arith, on, g .low))
 
     pub gather-up : {next : ℕ} → (depth ≡ 0 → ⊥) → Moved tree b at (End next) → Gathering first fs (depth - 1) next
     gather-up {next} z (ends {t} e on) = on-with (rw e (children-up depth t (treeTokens tree b next) z)) (omega (arith, on, g .low))
@@ -175,9 +175,9 @@ module _ (tree : List ℕ) (b : Blocks) where
     abbrev overfull : ℕ → Features
     overfull t = record { count = fs .count; more = true; over = t; nodes = fs .nodes }
 
-    pub gathered-over : {t next : ℕ} → depth ≡ 0 → Moved tree b at (Begin t next) → mostFeatures ≤ fs .count → Gathers tree b all (overfull t)
-    gathered-over {t} z (begins {ts = ts} e like on) h =
-        let n = node t (textAt tree (t + 4) (b .end)) ts in
+    pub gathered-over : {t name next : ℕ} → depth ≡ 0 → Moved tree b at (Begin t name next) → mostFeatures ≤ fs .count → Gathers tree b all (overfull t)
+    gathered-over {t} {name} z (begins {ts = ts} e like on) h =
+        let n = node t (textAt tree name (b .end)) ts in
         record {
           taken = g .taken;
           others = n ∷ childrenAt 1 ts;

@@ -17,3 +17,4 @@ pub mod ValueLaws
 pub mod BehindLaws
 pub mod MoveLaws
 pub mod GatherLaws
+pub mod SearchLaws

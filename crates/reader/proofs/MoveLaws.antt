@@ -49,15 +49,15 @@ module _ (tree : List ℕ) (b : Blocks) where
   further at unended h = h
 
   begin-moved : (at : ℕ) {t next : ℕ} {c : Cursor} → Is tree (b .end) at (BeginNode t c) → stepAt tree (b .end) at ≡ BeginNode t c → at < b .end
-      → next ≡ behindOf (c .at) (b .end) (textAt tree (c .at) (b .end)) → Moved tree b at (Begin t next)
+      → next ≡ behindOf (c .at) (b .end) (textAt tree (c .at) (b .end)) → Moved tree b at (Begin t (c .at) next)
   begin-moved at (isBegin r k) e h q =
       let name = textAt tree (at + 4) (b .end) in
-      subst (λ (next : ℕ). Moved tree b at (Begin at next)) (sym q)
+      subst (λ (next : ℕ). Moved tree b at (Begin at (at + 4) next)) (sym q)
       (begins (tokens-step tree (b .end) (nameIn tree b) at e) (alike-behind (at + 4) name) (further at name h))
 
   module _ (at : ℕ) where
     pub move-begin : {t next : ℕ} {c : Cursor} → stepAt tree (b .end) at ≡ BeginNode t c → at < b .end
-        → next ≡ behindOf (c .at) (b .end) (textAt tree (c .at) (b .end)) → Moved tree b at (Begin t next)
+        → next ≡ behindOf (c .at) (b .end) (textAt tree (c .at) (b .end)) → Moved tree b at (Begin t (c .at) next)
     move-begin e h q = begin-moved at (seen tree (b .end) at e) e h q
 
     pub move-end-node : {t : ℕ} {c : Cursor} → stepAt tree (b .end) at ≡ EndNode t c → Moved tree b at (EndMove (c .at))
@@ -84,7 +84,7 @@ module _ (tree : List ℕ) (b : Blocks) where
     move-fault e = stops (λ depth. rw (tokens-step tree (b .end) (nameIn tree b) at e))
 
     -- a move goes on
-    pub begin-on : {t next : ℕ} → Moved tree b at (Begin t next) → at < next
+    pub begin-on : {t name next : ℕ} → Moved tree b at (Begin t name next) → at < next
     begin-on (begins e like on) = on
 
     pub end-on : {next : ℕ} → Moved tree b at (EndMove next) → at < next

@@ -1,10 +1,11 @@
 -- What the parts of the reader's code answer. The promises of the public functions rest on `Reading`, not on this file.
 use Prim.Native.Nat.{ℕ, _+_, _≤_, _<_}
 use mathlib.Core.Path.{_≡_}
-use mathlib.Core.Bool.{true, false}
+use mathlib.Core.Bool.{Bool, true, false}
 use mathlib.Core.List.{List, [], _∷_, _++_}
 use lib.ListN.{length, take, drop, getD}
 use Rattle.cells.specs.Strings.{Text, ended, unended, textAt}
+use Rattle.names.specs.Names.{sameText}
 use Rattle.tokens.specs.Tokens.{Token, beginNode, endNode, afterName}
 use Rattle.header.specs.declared.Blocks.{Blocks}
 use Rattle.walk.specs.Walk.{treeTokens}
@@ -40,20 +41,20 @@ pub record Alike (ts us : List Token) : Type 0 where
 
 -- what the token at a place is to the children of a node
 pub data Moved (tree : List ℕ) (b : Blocks) (at : ℕ) : Move → Type 0 where
-  begins : {t next : ℕ} {ts : List Token} → treeTokens tree b at ≡ beginNode t (textAt tree (t + 4) (b .end)) ∷ ts → Alike ts (treeTokens tree b next)
-      → at < next → Moved tree b at (Begin t next)
+  begins : {t name next : ℕ} {ts : List Token} → treeTokens tree b at ≡ beginNode t (textAt tree name (b .end)) ∷ ts → Alike ts (treeTokens tree b next)
+      → at < next → Moved tree b at (Begin t name next)
   ends : {t next : ℕ} → treeTokens tree b at ≡ endNode t ∷ treeTokens tree b next → at < next → Moved tree b at (End next)
   passes : {next : ℕ} → ((depth : ℕ) → childrenAt depth (treeTokens tree b at) ≡ childrenAt depth (treeTokens tree b next)) → at < next
       → Moved tree b at (Pass next)
   stops : ((depth : ℕ) → childrenAt depth (treeTokens tree b at) ≡ []) → Moved tree b at Stop
 
 abbrev pub noPlace : NodePlace
-noPlace = record { at = 0; behind = 0 }
+noPlace = record { at = 0; name = 0; behind = 0 }
 
 -- a node's place: its offset, its name, and its values
 pub record IsNode (tree : List ℕ) (b : Blocks) (n : Node) (p : NodePlace) : Type 0 where
   pub offset : n .at ≡ p .at
-  pub name : n .name ≡ textAt tree (p .at + 4) (b .end)
+  pub name : n .name ≡ textAt tree (p .name) (b .end)
   pub values : (name : List ℕ) → valueIn name (n .behind) ≡ valueIn name (treeTokens tree b (p .behind))
 
 -- the places of some nodes
@@ -70,3 +71,13 @@ pub record Gathers (tree : List ℕ) (b : Blocks) (all : List Node) (r : Feature
   pub nodes : AreNodes tree b taken (r .nodes)
   pub whole : r .more ≡ false → others ≡ []
   pub over : r .more ≡ true → (length taken ≡ mostFeatures) × ((n : Node) × ((rest : List Node) × (others ≡ n ∷ rest) × (n .at ≡ r .over)))
+
+-- the features at two positions have the same name
+unfoldable pub sameNames : List ℕ → ℕ → List NodePlace → ℕ → ℕ → Bool
+sameNames tree stop ps i j = sameText (textAt tree (getD ps j noPlace .name) stop) (textAt tree (getD ps i noPlace .name) stop)
+
+-- the first position that is the same as an earlier one; n where there is none below n
+pub record FirstRepeated (same : ℕ → ℕ → Bool) (n r : ℕ) : Type 0 where
+  pub within : r ≤ n
+  pub before : (i j : ℕ) → i < r → j < i → same i j ≡ false
+  pub there : r < n → (j : ℕ) × ((j < r) × (same r j ≡ true))

@@ -9,10 +9,11 @@ ghost use mathlib.Core.Path.{_≡_};
 ghost use Prim.Native.Nat.{_≤_, _<_};
 ghost use lib.ListN.{length as length-of};
 ghost use Rattle.cells.specs.Strings.{textAt};
+ghost use Rattle.record.specs.Record.{mostFeatures};
 ghost use Rattle.walk.specs.Walk.{treeTokens};
 ghost use Rattle.reader.specs.Nodes.{childrenAt};
 ghost use Rattle.reader.specs.Values.{valueIn};
-ghost use Rattle.reader.specs.Parts.{Shows, behindOf, Moved, Gathers};
+ghost use Rattle.reader.specs.Parts.{Shows, behindOf, Moved, Gathers, sameNames, FirstRepeated};
 
 // What a node has of a property: nothing, or where its value begins and how many bytes it has.
 enum Held {
@@ -20,18 +21,19 @@ enum Held {
     At { from: usize, length: usize },
 }
 
-// A token of a node's contents: a child begins, with where what is behind its begin token begins; a node ends; something else, passed;
-// or there is no more.
+// A token of a node's contents: a child begins, with where its name begins and what is behind its begin token; a node ends; something
+// else, passed; or there is no more.
 enum Move {
-    Begin { at: usize, next: usize },
+    Begin { at: usize, name: usize, next: usize },
     End(usize),
     Pass(usize),
     Stop,
 }
 
-// A node: its begin token's offset, and where the tokens behind it begin.
+// A node: its begin token's offset, and where its name and the tokens behind it begin.
 struct NodePlace {
     at: usize,
+    name: usize,
     behind: usize,
 }
 
@@ -115,6 +117,7 @@ fn move_at(tree: &[u8], b: Blocks, at: usize) -> Move
     match step {
         Step::BeginNode { at: t, name } => Move::Begin {
             at: t,
+            name: name.at,
             next: behind(tree, end, name.at),
         },
         Step::EndNode { at: _, next } => Move::End(next.at),
@@ -136,7 +139,11 @@ fn features_of(tree: &[u8], b: Blocks, first: usize) -> Features
     ensures { λ r.
         ⌜ Gathers (now (tree .entry)) b (childrenAt 0 (treeTokens (now (tree .entry)) b first)) r ⌝ }
 {
-    let none = NodePlace { at: 0, behind: 0 };
+    let none = NodePlace {
+        at: 0,
+        name: 0,
+        behind: 0,
+    };
     let mut fs = Features {
         count: 0,
         more: false,
@@ -148,7 +155,7 @@ fn features_of(tree: &[u8], b: Blocks, first: usize) -> Features
     while at < b.end {
         let moved = move_at(tree, b, at);
         match moved {
-            Move::Begin { at: t, next } => {
+            Move::Begin { at: t, name, next } => {
                 if depth == 0 {
                     let n = fs.count;
                     if MOST_FEATURES <= n {
@@ -158,6 +165,7 @@ fn features_of(tree: &[u8], b: Blocks, first: usize) -> Features
                     }
                     fs.nodes[n] = NodePlace {
                         at: t,
+                        name,
                         behind: next,
                     };
                     fs.count = n + 1;
@@ -184,4 +192,29 @@ fn features_of(tree: &[u8], b: Blocks, first: usize) -> Features
         }
     }
     fs
+}
+
+// Document 01: "the first earlier feature with the same name ends the search". The first position whose feature has the name of an
+// earlier one; the count where there is none.
+fn repeated_name(tree: &[u8], b: Blocks, fs: Features) -> usize
+    requires { ⌜ fs .count ≤ mostFeatures ⌝ }
+    ensures { λ r. ⌜ FirstRepeated (sameNames (now (tree .entry)) (b .end) (fs .nodes)) (fs .count) r ⌝ }
+{
+    let end = b.end;
+    let mut found = fs.count;
+    let mut i: usize = 0;
+    'search: while i < fs.count {
+        let p = fs.nodes[i];
+        let mut j: usize = 0;
+        while j < i {
+            let q = fs.nodes[j];
+            if names::same_name(tree, q.name, p.name, end) {
+                found = i;
+                break 'search;
+            }
+            j += 1;
+        }
+        i += 1;
+    }
+    found
 }

@@ -30,8 +30,8 @@ returns c =
     let m = subst (Moved _ _ _) (c .before .before .before .moved .given .1) (c .before .before .before .before .before .move-at .ensures) in
     gathered-over _ _ g (c .before .if2 .taken) m (c .if3 .taken)
 
-mul-t19 : tie.Need-mul-t19 Inv-loop μ-loop
-mul-t19 c = search needs
+mul-t20 : tie.Need-mul-t20 Inv-loop μ-loop
+mul-t20 c = search needs
 
 element-set-from-fs : tie.Need-element-set-from-fs Inv-loop μ-loop
 element-set-from-fs c =
@@ -133,7 +133,7 @@ features-of-spec =
     move-at-requires
     enum-known-moved
     returns
-    mul-t19
+    mul-t20
     element-set-from-fs
     add-fs
     loop-less
