@@ -18,3 +18,4 @@ pub mod BehindLaws
 pub mod MoveLaws
 pub mod GatherLaws
 pub mod SearchLaws
+pub mod CellReadLaws

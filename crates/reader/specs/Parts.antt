@@ -17,6 +17,14 @@ use Rattle.reader.specs.declared.Features.{Features}
 use Rattle.reader.specs.declared.Held.{Held}
 use Rattle.reader.specs.declared.Held.the-variants.{Missing, At}
 use Rattle.reader.specs.Nodes.{Node, childrenAt}
+use Rattle.refusal.specs.Refusal.{numberOf}
+use Rattle.refusal.specs.declared.Refusal.{Refusal}
+use Rattle.record.specs.declared.Cell.{Cell}
+use Rattle.record.specs.declared.Cell.the-variants.{Absent}
+use Rattle.tokens.specs.Steps.{pick}
+use lib.Dec.{eqb}
+use Rattle.reader.specs.declared.CellRead.{CellRead}
+use Rattle.reader.specs.Resolved.{cellOf}
 use Rattle.reader.specs.Reading.{nodeAt}
 use Rattle.reader.specs.Values.{Value, missing, value, valueIn}
 
@@ -81,3 +89,16 @@ pub record FirstRepeated (same : ℕ → ℕ → Bool) (n r : ℕ) : Type 0 wher
   pub within : r ≤ n
   pub before : (i j : ℕ) → i < r → j < i → same i j ≡ false
   pub there : r < n → (j : ℕ) × ((j < r) × (same r j ≡ true))
+
+-- the refusal of a property of one cell, 0 where there is none; it may be needed
+abbrev pub cellFault : Bool → Value → ℕ
+cellFault needed missing = pick needed 11 0
+cellFault needed (value bs) = pick (eqb (length bs) 4) 0 11
+
+abbrev pub badCell : Refusal → CellRead
+badCell refusal = record { refusal = refusal; cell = Absent }
+
+-- its refusal, and its cell where there is none
+pub record CellIs (needed : Bool) (v : Value) (r : CellRead) : Type 0 where
+  pub number : numberOf (r .refusal) ≡ cellFault needed v
+  pub cell : cellFault needed v ≡ 0 → r .cell ≡ cellOf v

@@ -2,7 +2,9 @@
 use cells::Ending;
 use header::Blocks;
 use properties::StringsBlock;
+use record::Cell;
 use record::MOST_FEATURES;
+use refusal::Refusal;
 use tokens::Cursor;
 use tokens::Step;
 ghost use mathlib.Core.Path.{_≡_};
@@ -13,7 +15,7 @@ ghost use Rattle.record.specs.Record.{mostFeatures};
 ghost use Rattle.walk.specs.Walk.{treeTokens};
 ghost use Rattle.reader.specs.Nodes.{childrenAt};
 ghost use Rattle.reader.specs.Values.{valueIn};
-ghost use Rattle.reader.specs.Parts.{Shows, behindOf, Moved, Gathers, sameNames, FirstRepeated};
+ghost use Rattle.reader.specs.Parts.{Shows, behindOf, Moved, Gathers, sameNames, FirstRepeated, badCell, CellIs};
 
 // What a node has of a property: nothing, or where its value begins and how many bytes it has.
 enum Held {
@@ -43,6 +45,12 @@ struct Features {
     more: bool,
     over: usize,
     nodes: [NodePlace; MOST_FEATURES],
+}
+
+// A property of one cell: its refusal, and the cell where there is none.
+struct CellRead {
+    refusal: Refusal,
+    cell: Cell,
 }
 
 // The value of the property of a name, among those that begin at `first`.
@@ -217,4 +225,41 @@ fn repeated_name(tree: &[u8], b: Blocks, fs: Features) -> usize
         i += 1;
     }
     found
+}
+
+fn bad_cell(refusal: Refusal) -> CellRead
+    ensures { λ r. ⌜ r ≡ badCell refusal ⌝ }
+{
+    CellRead {
+        refusal,
+        cell: Cell::Absent,
+    }
+}
+
+// The property of a name, one cell, among those that begin at `first`; `needed` where it must be given.
+fn read_cell(tree: &[u8], b: Blocks, first: usize, name: &[u8], needed: bool) -> CellRead
+    requires { ⌜ b .end ≤ length-of (now tree) ⌝ }
+    ensures { λ r. ⌜ CellIs needed (valueIn (now (name .entry)) (treeTokens (now (tree .entry)) b first)) r ⌝ }
+{
+    let held = value_of(tree, b, first, name);
+    match held {
+        Held::At { from, length } => {
+            if length != 4 {
+                return bad_cell(Refusal::PropertyForm);
+            }
+            CellRead {
+                refusal: Refusal::None,
+                cell: Cell::Given(cells::cell_at(tree, from)),
+            }
+        }
+        Held::Missing => {
+            if needed {
+                return bad_cell(Refusal::PropertyForm);
+            }
+            CellRead {
+                refusal: Refusal::None,
+                cell: Cell::Absent,
+            }
+        }
+    }
 }
