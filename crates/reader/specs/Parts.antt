@@ -1,5 +1,5 @@
 -- What the parts of the reader's code answer. The promises of the public functions rest on `Reading`, not on this file.
-use Prim.Native.Nat.{ℕ, _+_, _≤_, _<_}
+use Prim.Native.Nat.{ℕ, zero, suc, _+_, _≤_, _<_}
 use mathlib.Core.Path.{_≡_}
 use mathlib.Core.Bool.{Bool, true, false}
 use mathlib.Core.List.{List, [], _∷_, _++_}
@@ -19,10 +19,11 @@ use Rattle.reader.specs.declared.Held.the-variants.{Missing, At}
 use Rattle.reader.specs.Nodes.{Node, childrenAt}
 use Rattle.refusal.specs.Refusal.{numberOf}
 use Rattle.refusal.specs.declared.Refusal.{Refusal}
+use Rattle.refusal.specs.declared.Refusal.the-variants.{OutOfRange}
 use Rattle.record.specs.declared.Cell.{Cell}
-use Rattle.record.specs.declared.Cell.the-variants.{Absent}
+use Rattle.record.specs.declared.Cell.the-variants.{Absent, Given}
 use Rattle.tokens.specs.Steps.{pick}
-use lib.Dec.{eqb}
+use lib.Dec.{eqb, ltb}
 use Rattle.reader.specs.declared.CellRead.{CellRead}
 use Rattle.reader.specs.Resolved.{cellOf}
 use Rattle.reader.specs.Reading.{nodeAt}
@@ -102,3 +103,15 @@ badCell refusal = record { refusal = refusal; cell = Absent }
 pub record CellIs (needed : Bool) (v : Value) (r : CellRead) : Type 0 where
   pub number : numberOf (r .refusal) ≡ cellFault needed v
   pub cell : cellFault needed v ≡ 0 → r .cell ≡ cellOf v
+
+-- a cell refused where it is given and not from low to high: "0 to 63", "neither 0 nor all ones"
+abbrev pub rangeOf : ℕ → ℕ → CellRead → Cell → CellRead
+rangeOf low high c Absent = c
+rangeOf low high c (Given n) = pick (ltb n low) (badCell OutOfRange) (pick (ltb high n) (badCell OutOfRange) c)
+
+abbrev pub ifGood : ℕ → CellRead → CellRead → CellRead
+ifGood zero c good = good
+ifGood (suc n) c good = c
+
+unfoldable pub inRange : ℕ → ℕ → CellRead → CellRead
+inRange low high c = ifGood (numberOf (c .refusal)) c (rangeOf low high c (c .cell))

@@ -15,7 +15,7 @@ ghost use Rattle.record.specs.Record.{mostFeatures};
 ghost use Rattle.walk.specs.Walk.{treeTokens};
 ghost use Rattle.reader.specs.Nodes.{childrenAt};
 ghost use Rattle.reader.specs.Values.{valueIn};
-ghost use Rattle.reader.specs.Parts.{Shows, behindOf, Moved, Gathers, sameNames, FirstRepeated, badCell, CellIs};
+ghost use Rattle.reader.specs.Parts.{Shows, behindOf, Moved, Gathers, sameNames, FirstRepeated, badCell, CellIs, inRange};
 
 // What a node has of a property: nothing, or where its value begins and how many bytes it has.
 enum Held {
@@ -261,5 +261,28 @@ fn read_cell(tree: &[u8], b: Blocks, first: usize, name: &[u8], needed: bool) ->
                 cell: Cell::Absent,
             }
         }
+    }
+}
+
+// A cell, refused where it is given and not from `low` to `high`.
+fn in_range(c: CellRead, low: u32, high: u32) -> CellRead
+    ensures { λ r. ⌜ r ≡ inRange low high c ⌝ }
+{
+    let refusal = c.refusal;
+    if refusal::number(refusal) != 0 {
+        return c;
+    }
+    let cell = c.cell;
+    match cell {
+        Cell::Given(n) => {
+            if n < low {
+                return bad_cell(Refusal::OutOfRange);
+            }
+            if high < n {
+                return bad_cell(Refusal::OutOfRange);
+            }
+            c
+        }
+        Cell::Absent => c,
     }
 }
