@@ -8,16 +8,17 @@ a lent buffer's bytes, which follow the length written, stay as they were.
 Standard library only, Python 3.9 or later.
 """
 
-# Document 01, "Refusal numbers".
-ACCEPTED = 0
-TOO_MANY = 8
-GIVEN_TWICE = 9
-NOT_THERE = 10
-WRONG_LENGTH = 11
-OUT_OF_RANGE = 12
-SHORT_BUFFER = 18
-NOT_ASCENDING = 19
-NO_UNIT_TEXT = 20
+from model.refusals import (
+    ACCEPTED,
+    GIVEN_TWICE,
+    NOT_ASCENDING,
+    NOT_THERE,
+    NO_UNIT_TEXT,
+    OUT_OF_RANGE,
+    SHORT_BUFFER,
+    TOO_MANY,
+    WRONG_LENGTH,
+)
 
 MOST_SIZES = 16
 MOST_DESCRIPTORS = 8

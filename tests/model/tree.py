@@ -13,18 +13,19 @@ Standard library only, Python 3.9 or later.
 import collections
 import re
 
-# Document 01, "Refusal numbers".
-ACCEPTED = 0
-TREE_LENGTH = 1
-MAGIC = 2
-TREE_SIZE = 3
-VERSION = 4
-BLOCK_BOUNDS = 5
-TOKEN = 6
-NAME = 7
-TOO_MANY = 8
-GIVEN_TWICE = 9
-NOT_THERE = 10
+from model.refusals import (
+    ACCEPTED,
+    BLOCK_BOUNDS,
+    GIVEN_TWICE,
+    MAGIC,
+    NAME,
+    NOT_THERE,
+    TOKEN,
+    TOO_MANY,
+    TREE_LENGTH,
+    TREE_SIZE,
+    VERSION,
+)
 
 HEADER_BYTES = 40
 MOST_TREE_BYTES = 65536

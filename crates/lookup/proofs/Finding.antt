@@ -8,12 +8,12 @@ use Rattle.lookup.specs.declared.Hit.{Hit}
 use Rattle.lookup.specs.declared.BlockRead.{BlockRead}
 use Rattle.lookup.specs.declared.BlockRead.the-variants.{Properties, Refused}
 use Rattle.lookup.specs.declared.Looked.{Looked}
-use Rattle.lookup.specs.Lookup.{Held, Block, refused, blockOf, heldAs, orParent, among2, lookup, notFound, reasonOf, reason}
+use Rattle.lookup.specs.Lookup.{Held, Block, refused, blockOf, heldAs, orParent, inEither, lookup, notFound, reasonOf, reason}
 use Rattle.lookup.specs.Parts.{hitOf, Whole, Reads, nowhere, firstOf, Looks}
 
 -- what the two blocks say, by their reading
 module _ (cpu parent strings name : List ℕ) {b p : Block} (own : blockOf cpu strings ≡ b) (other : blockOf parent strings ≡ p) where
-  looks : {r : Looked} → r .found ≡ among2 name b p → numberOf (r .refusal) ≡ reasonOf (among2 name b p) b p → Looks cpu parent strings name r
+  looks : {r : Looked} → r .found ≡ inEither name b p → numberOf (r .refusal) ≡ reasonOf (inEither name b p) b p → Looks cpu parent strings name r
   unfolding lookup reason
   looks f k = record { place = rw (own, other) f; why = rw (own, other) k }
 

@@ -17,7 +17,7 @@ use Rattle.tokens.specs.Steps.{stepAt}
 use Rattle.properties.specs.Properties.{nameAt, among}
 use Rattle.lookup.specs.declared.Found.{Found}
 use Rattle.lookup.specs.declared.Found.the-variants.{InCpu, InParent, Nowhere}
-use Rattle.lookup.specs.Lookup.{Held, Block, properties, refused, blockFrom, blockOf, heldAs, orParent, among2, lookup, partOf, valueOf}
+use Rattle.lookup.specs.Lookup.{Held, Block, properties, refused, blockFrom, blockOf, heldAs, orParent, inEither, lookup, partOf, valueOf}
 use Rattle.lookup.specs.Parts.{nameIn}
 use Rattle.lookup.proofs.Blocks.{checked, held, readStep, block-done, block-step}
 use Rattle.lookup.proofs.Entries.{Lies, lies}
@@ -178,7 +178,7 @@ module _ (cpu parent strings name : List ℕ) where
       first [] (q ∷ qs) a b = b
       first [] [] a b = tt
 
-      go : (b p : Block) → blockOf cpu strings ≡ b → blockOf parent strings ≡ p → Placed (among2 name b p)
+      go : (b p : Block) → blockOf cpu strings ≡ b → blockOf parent strings ≡ p → Placed (inEither name b p)
       go (properties ps) (properties qs) e f =
           first (heldAs name ps) (heldAs name qs) (read-part cpu strings name e (heldAs name ps) refl) (read-part parent strings name f (heldAs name qs) refl)
       go (properties ps) (refused n) e f = tt

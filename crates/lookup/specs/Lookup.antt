@@ -65,13 +65,13 @@ orParent name (h ∷ hs) qs = InCpu (h .from) (h .to)
 orParent name [] (q ∷ qs) = InParent (q .from) (q .to)
 orParent name [] [] = Nowhere
 
-abbrev pub among2 : List ℕ → Block → Block → Found
-among2 name (properties ps) (properties qs) = orParent name (heldAs name ps) (heldAs name qs)
-among2 name (properties ps) (refused n) = Nowhere
-among2 name (refused n) b = Nowhere
+abbrev pub inEither : List ℕ → Block → Block → Found
+inEither name (properties ps) (properties qs) = orParent name (heldAs name ps) (heldAs name qs)
+inEither name (properties ps) (refused n) = Nowhere
+inEither name (refused n) b = Nowhere
 
 unfoldable pub lookup : List ℕ → List ℕ → List ℕ → List ℕ → Found
-lookup cpu parent strings name = among2 name (blockOf cpu strings) (blockOf parent strings)
+lookup cpu parent strings name = inEither name (blockOf cpu strings) (blockOf parent strings)
 
 -- "0 when it is found, else the reason: the walk's 6, 7 or 9, the CPU block first, then 10"
 abbrev pub notFound : Found → ℕ
