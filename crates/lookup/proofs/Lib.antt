@@ -3,3 +3,4 @@ pub mod Reading
 pub mod Entries
 pub mod Finding
 pub mod ReturnedPart
+pub mod Reasons
