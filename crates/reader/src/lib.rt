@@ -164,13 +164,15 @@ fn features_of(tree: &[u8], b: Blocks, first: usize) -> Features
         let moved = move_at(tree, b, at);
         match moved {
             Move::Begin { at: t, name, next } => {
-                if depth == 0 {
+                if depth != 0 {
+                    depth += 1;
+                    at = next;
+                } else if MOST_FEATURES <= fs.count {
+                    fs.more = true;
+                    fs.over = t;
+                    return fs;
+                } else {
                     let n = fs.count;
-                    if MOST_FEATURES <= n {
-                        fs.more = true;
-                        fs.over = t;
-                        return fs;
-                    }
                     fs.nodes[n] = NodePlace {
                         at: t,
                         name,
@@ -178,9 +180,6 @@ fn features_of(tree: &[u8], b: Blocks, first: usize) -> Features
                     };
                     fs.count = n + 1;
                     depth = 1;
-                    at = next;
-                } else {
-                    depth += 1;
                     at = next;
                 }
             }

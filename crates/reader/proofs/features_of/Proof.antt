@@ -24,14 +24,31 @@ move-at-requires c κs = search needs
 enum-known-moved : tie.Need-enum-known-moved Inv-loop μ-loop
 enum-known-moved c = search needs
 
+add-depth : tie.Need-add-depth Inv-loop μ-loop
+add-depth c =
+    let g = c .before .before .before .before .before .before .before .loop .inv in
+    omega (arith, g .low)
+
+loop-less : tie.Need-loop-less Inv-loop μ-loop
+loop-less c =
+    let g = c .before .before .before .before .before .before .before .loop .inv in
+    let m = subst (Moved _ _ _) (c .before .before .moved .given .1) (c .before .before .before .before .move-at .ensures) in
+    omega (arith, begin-on _ _ _ m)
+
+loop-again : tie.Need-loop-again Inv-loop μ-loop
+loop-again c =
+    let g = c .before .before .before .before .before .before .before .loop .inv in
+    let m = subst (Moved _ _ _) (c .before .before .moved .given .1) (c .before .before .before .before .move-at .ensures) in
+    gather-nested _ _ g (c .if2 .taken) m
+
 returns : tie.Need-returns Inv-loop μ-loop
 returns c =
     let g = c .before .before .before .before .before .before .before .before .loop .inv in
     let m = subst (Moved _ _ _) (c .before .before .before .moved .given .1) (c .before .before .before .before .before .move-at .ensures) in
-    gathered-over _ _ g (c .before .if2 .taken) m (c .if3 .taken)
+    gathered-over _ _ g (c .before .if2 .left) m (c .if3 .taken)
 
-mul-t20 : tie.Need-mul-t20 Inv-loop μ-loop
-mul-t20 c = search needs
+mul-t21 : tie.Need-mul-t21 Inv-loop μ-loop
+mul-t21 c = search needs
 
 element-set-from-fs : tie.Need-element-set-from-fs Inv-loop μ-loop
 element-set-from-fs c =
@@ -43,34 +60,17 @@ add-fs c =
     let g = c .before .before .before .before .before .before .before .before .loop .inv in
     omega (arith, g .count, g .few)
 
-loop-less : tie.Need-loop-less Inv-loop μ-loop
-loop-less c =
-    let g = c .before .before .before .before .before .before .before .before .loop .inv in
-    let m = subst (Moved _ _ _) (c .before .before .before .moved .given .1) (c .before .before .before .before .before .move-at .ensures) in
-    omega (arith, begin-on _ _ _ m)
-
-loop-again : tie.Need-loop-again Inv-loop μ-loop
-loop-again c =
-    let g = c .before .before .before .before .before .before .before .before .loop .inv in
-    let m = subst (Moved _ _ _) (c .before .before .before .moved .given .1) (c .before .before .before .before .before .move-at .ensures) in
-    gather-child _ _ g (c .before .if2 .taken) m (omega arith)
-
-add-depth : tie.Need-add-depth Inv-loop μ-loop
-add-depth c =
-    let g = c .before .before .before .before .before .before .before .loop .inv in
-    omega (arith, g .low)
-
 loop-less-2 : tie.Need-loop-less-2 Inv-loop μ-loop
 loop-less-2 c =
-    let g = c .before .before .before .before .before .before .before .loop .inv in
-    let m = subst (Moved _ _ _) (c .before .before .moved .given .1) (c .before .before .before .before .move-at .ensures) in
+    let g = c .before .before .before .before .before .before .before .before .loop .inv in
+    let m = subst (Moved _ _ _) (c .before .before .before .moved .given .1) (c .before .before .before .before .before .move-at .ensures) in
     omega (arith, begin-on _ _ _ m)
 
 loop-again-2 : tie.Need-loop-again-2 Inv-loop μ-loop
 loop-again-2 c =
-    let g = c .before .before .before .before .before .before .before .loop .inv in
-    let m = subst (Moved _ _ _) (c .before .before .moved .given .1) (c .before .before .before .before .move-at .ensures) in
-    gather-nested _ _ g (c .if2 .left) m
+    let g = c .before .before .before .before .before .before .before .before .loop .inv in
+    let m = subst (Moved _ _ _) (c .before .before .before .moved .given .1) (c .before .before .before .before .before .move-at .ensures) in
+    gather-child _ _ g (c .before .if2 .left) m (omega arith)
 
 enum-known-moved-2 : tie.Need-enum-known-moved-2 Inv-loop μ-loop
 enum-known-moved-2 c = search needs
@@ -132,13 +132,13 @@ features-of-spec =
     loop-holds
     move-at-requires
     enum-known-moved
-    returns
-    mul-t20
-    element-set-from-fs
-    add-fs
+    add-depth
     loop-less
     loop-again
-    add-depth
+    returns
+    mul-t21
+    element-set-from-fs
+    add-fs
     loop-less-2
     loop-again-2
     enum-known-moved-2
