@@ -32,7 +32,7 @@ node-at (n ∷ ns) (suc i) = node-at ns i
 pub node-split : (ns : List Node) (i : ℕ) → i < length ns → ns ≡ take i ns ++ nodeAt ns i ∷ drop (suc i) ns
 node-split ns i h = split-at ns i nothing h ∙ ap (λ (n : Node). take i ns ++ n ∷ drop (suc i) ns) (node-at ns i)
 
-node-before : (ns : List Node) (i k : ℕ) → k < i → nodeAt (take i ns) k ≡ nodeAt ns k
+pub node-before : (ns : List Node) (i k : ℕ) → k < i → nodeAt (take i ns) k ≡ nodeAt ns k
 node-before ns i k h = sym (node-at (take i ns) k) ∙ getD-take i ns k nothing h ∙ node-at ns k
 
 -- a phandle is carried where it is the cell that is read
@@ -86,7 +86,7 @@ carrier-found p i (n ∷ ns) h = go (carries p n) refl h (carrier-found p (suc i
     go false e k f = later e (f k)
 
 -- one of some nodes: none of them where it is false
-some-none : (q : Node → Bool) (ns : List Node) (k : ℕ) → k < length ns → some q ns ≡ false → q (nodeAt ns k) ≡ false
+pub some-none : (q : Node → Bool) (ns : List Node) (k : ℕ) → k < length ns → some q ns ≡ false → q (nodeAt ns k) ≡ false
 unfolding some nodeAt
 some-none q [] k l h = absurd (omega arith)
 some-none q (n ∷ ns) zero l h = go (q n) h

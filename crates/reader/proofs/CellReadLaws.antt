@@ -26,26 +26,26 @@ cell-part tree from size h = rw (at 0 (omega arith), at 1 (omega arith), at 2 (o
     at i l = getD-take size (drop from tree) i 0 (omega arith) ∙ getD-drop from tree i 0
 
 module _ {tree : List ℕ} {v : Value} {from size : ℕ} (g : Lies tree v from size) where
-  long : length (take size (drop from tree)) ≡ size
+  pub long : length (take size (drop from tree)) ≡ size
   long = omega (arith, g .within, length-take size (drop from tree), length-drop from tree)
 
   pub cell-given : (needed : Bool) {n : ℕ} → size ≡ 4 → n ≡ cellAt tree from → CellIs needed v (record { refusal = None; cell = Given n })
   cell-given needed {n} e k =
       let l : eqb (length (take size (drop from tree))) 4 ≡ true = eq-eqb (length (take size (drop from tree))) 4 (long ∙ e) in
       rw (g .bytes)
-      (record { number = rw l; cell = λ z. ap Given (k ∙ sym (cell-part tree from size (omega arith))) })
+      (record { number = rw l; cell = λ z. ap Given (k ∙ sym (cell-part tree from size (omega arith))); refused = λ z. absurd (z (rw l)) })
 
   pub cell-long : (needed : Bool) → (size ≡ 4 → ⊥) → CellIs needed v (badCell PropertyForm)
   cell-long needed e =
       let l : eqb (length (take size (drop from tree))) 4 ≡ false = ne-eqb (length (take size (drop from tree))) 4 (λ q. e (sym long ∙ q)) in
-      rw (g .bytes) (record { number = rw l; cell = λ z. let q : _≡_ {A = ℕ} 11 0 = sym (rw l) ∙ z in absurd (omega arith) })
+      rw (g .bytes) (record { number = rw l; cell = λ z. let q : _≡_ {A = ℕ} 11 0 = sym (rw l) ∙ z in absurd (omega arith); refused = λ z. refl })
 
 module _ {v : Value} (e : v ≡ missing) where
   pub cell-missing : {needed : Bool} → needed ≡ true → CellIs needed v (badCell PropertyForm)
-  cell-missing z = rw (e, z) (record { number = refl; cell = λ q. refl })
+  cell-missing z = rw (e, z) (record { number = refl; cell = λ q. refl; refused = λ q. refl })
 
   pub cell-absent : {needed : Bool} → needed ≡ false → CellIs needed v (record { refusal = None; cell = Absent })
-  cell-absent z = rw (e, z) (record { number = refl; cell = λ q. refl })
+  cell-absent z = rw (e, z) (record { number = refl; cell = λ q. refl; refused = λ q. refl })
 
 -- a cell in a range
 module _ (low high : ℕ) (c : CellRead) {k : ℕ} (e : k ≡ numberOf (c .refusal)) where

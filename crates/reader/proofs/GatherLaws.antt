@@ -29,7 +29,7 @@ node-left [] ms i h = absurd (omega arith)
 node-left (n ∷ ns) ms zero h = refl
 node-left (n ∷ ns) ms (suc i) h = node-left ns ms i (omega arith)
 
-node-seam : (ns : List Node) (n : Node) (ms : List Node) → nodeAt (ns ++ n ∷ ms) (length ns) ≡ n
+pub node-seam : (ns : List Node) (n : Node) (ms : List Node) → nodeAt (ns ++ n ∷ ms) (length ns) ≡ n
 unfolding nodeAt
 node-seam [] n ms = refl
 node-seam (m ∷ ns) n ms = node-seam ns n ms

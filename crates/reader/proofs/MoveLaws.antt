@@ -35,7 +35,7 @@ children-past s stop names at h depth = rw (tokens-step s stop names at refl) (g
 
 module _ (tree : List ℕ) (b : Blocks) where
   -- what is behind a begin token, by its name
-  alike-behind : (from : ℕ) (t : Text) → Alike (afterBegin (treeTokens tree b) from t) (treeTokens tree b (behindOf from (b .end) t))
+  pub alike-behind : (from : ℕ) (t : Text) → Alike (afterBegin (treeTokens tree b) from t) (treeTokens tree b (behindOf from (b .end) t))
   unfolding valueIn childrenAt
   alike-behind from (ended name) = record { values = λ n. refl; nodes = λ depth. refl }
   alike-behind from unended =

@@ -1,23 +1,33 @@
 -- What the parts of the reader's code answer. The promises of the public functions rest on `Reading`, not on this file.
-use Prim.Native.Nat.{ℕ, zero, suc, _+_, _≤_, _<_}
+use Prim.Native.Nat.{ℕ, zero, suc, _+_, _*_, _≤_, _<_}
 use mathlib.Core.Path.{_≡_}
 use mathlib.Core.Bool.{Bool, true, false}
-use mathlib.Core.List.{List, [], _∷_, _++_}
+use mathlib.Core.List.{List, [], _∷_, _++_, map}
 use lib.ListN.{length, take, drop, getD}
 use Rattle.cells.specs.Strings.{Text, ended, unended, textAt}
 use Rattle.names.specs.Names.{sameText}
 use Rattle.tokens.specs.Tokens.{Token, beginNode, endNode, afterName}
 use Rattle.header.specs.declared.Blocks.{Blocks}
 use Rattle.walk.specs.Walk.{treeTokens}
-use Rattle.record.specs.Record.{mostFeatures}
+use Rattle.header.specs.Header.{largestTree}
+use Rattle.cells.specs.Cells.{cellAt}
+use Rattle.cells.specs.Rows.{padded}
+use Rattle.cells.specs.Strings.{isString}
+use Rattle.record.specs.declared.Record.{Record}
+use Rattle.record.specs.declared.Feature.{Feature}
+use Rattle.record.specs.Record.{mostFeatures, mostDependencies, slotCount, noFeature, noFeatures}
+use Rattle.record.specs.Cells.{cell, lowBit, numberIn}
+use Rattle.characters.specs.Characters.{bytes}
+use Rattle.positions.specs.Below.{oneIf}
 use Rattle.reader.specs.declared.Move.{Move}
 use Rattle.reader.specs.declared.Move.the-variants.{Begin, End, Pass, Stop}
 use Rattle.reader.specs.declared.NodePlace.{NodePlace}
 use Rattle.reader.specs.declared.Features.{Features}
 use Rattle.reader.specs.declared.Held.{Held}
 use Rattle.reader.specs.declared.Held.the-variants.{Missing, At}
-use Rattle.reader.specs.Nodes.{Node, childrenAt}
-use Rattle.refusal.specs.Refusal.{numberOf}
+use Rattle.reader.specs.Nodes.{Node, childrenAt, children}
+use Rattle.refusal.specs.Refusal.{Fault, Placed, placed, refuseAt, numberOf}
+use Rattle.refusal.specs.Checks.{Check, firstFault}
 use Rattle.refusal.specs.declared.Refusal.{Refusal}
 use Rattle.refusal.specs.declared.Refusal.the-variants.{OutOfRange}
 use Rattle.record.specs.declared.Cell.{Cell}
@@ -25,9 +35,16 @@ use Rattle.record.specs.declared.Cell.the-variants.{Absent, Given}
 use Rattle.tokens.specs.Steps.{pick}
 use lib.Dec.{eqb, ltb}
 use Rattle.reader.specs.declared.CellRead.{CellRead}
-use Rattle.reader.specs.Resolved.{cellOf}
-use Rattle.reader.specs.Reading.{nodeAt}
-use Rattle.reader.specs.Values.{Value, missing, value, valueIn}
+use Rattle.reader.specs.Resolved.{cellOf, countOf}
+use Rattle.reader.specs.Reading.{nodeAt, containerProperties, recordOf}
+use Rattle.reader.specs.Values.{Value, missing, value, valueIn, valueOf, number, cellsOf}
+use Rattle.reader.specs.Features.{inOrder, bitChecks, phandleChecks, dependenciesChecks, featureChecks, featureOf}
+use Rattle.reader.specs.Dependencies.{carrier, slotOf, cellChecks, carrierChecks, slotsOf}
+use Rattle.reader.specs.Ends.{AllHold, FirstFailing}
+use Rattle.reader.specs.declared.FeatureCells.{FeatureCells}
+use Rattle.reader.specs.declared.FeatureRead.{FeatureRead}
+use Rattle.reader.specs.declared.FeaturesRead.{FeaturesRead}
+use Rattle.reader.specs.declared.SlotsRead.{SlotsRead}
 
 -- where a value lies in a tree
 pub record Lies (tree : List ℕ) (v : Value) (from size : ℕ) : Type 0 where
@@ -99,10 +116,11 @@ cellFault needed (value bs) = pick (eqb (length bs) 4) 0 11
 abbrev pub badCell : Refusal → CellRead
 badCell refusal = record { refusal = refusal; cell = Absent }
 
--- its refusal, and its cell where there is none
+-- its refusal, and its cell where there is none; no cell where there is one
 pub record CellIs (needed : Bool) (v : Value) (r : CellRead) : Type 0 where
   pub number : numberOf (r .refusal) ≡ cellFault needed v
   pub cell : cellFault needed v ≡ 0 → r .cell ≡ cellOf v
+  pub refused : (cellFault needed v ≡ 0 → ⊥) → r .cell ≡ Absent
 
 -- a cell refused where it is given and not from low to high: "0 to 63", "neither 0 nor all ones"
 abbrev pub rangeOf : ℕ → ℕ → CellRead → Cell → CellRead
@@ -115,3 +133,202 @@ ifGood (suc n) c good = c
 
 unfoldable pub inRange : ℕ → ℕ → CellRead → CellRead
 inRange low high c = ifGood (numberOf (c .refusal)) c (rangeOf low high c (c .cell))
+
+-- what some checks find: nothing, or the number and the place of the first that does not hold
+pub record Judged (cs : List (Check Fault)) (number place : ℕ) : Type 0 where
+  pub hold : number ≡ 0 → AllHold cs
+  pub fail : (number ≡ 0 → ⊥) → FirstFailing cs number place
+
+-- the number of a node's dependencies
+pub record CountIs (v : Value) (r : CellRead) : Type 0 where
+  pub judged : (at : ℕ) → Judged (dependenciesChecks at v) (numberOf (r .refusal)) at
+  pub cell : numberOf (r .refusal) ≡ 0 → r .cell ≡ countOf v
+
+-- the first position below n that passes a test; n where there is none
+pub record FirstThat (test : ℕ → Bool) (n r : ℕ) : Type 0 where
+  pub within : r ≤ n
+  pub before : (i : ℕ) → i < r → test i ≡ false
+  pub there : r < n → test r ≡ true
+
+-- what is noted of a feature's phandle: a number that no cell holds where there is none
+abbrev pub notedCell : Cell → ℕ
+notedCell Absent = 0x100000000
+notedCell (Given n) = n
+
+abbrev pub notedOf : Node → ℕ
+notedOf n = notedCell (cellOf (valueOf n "phandle"))
+
+-- the feature at a position carries a phandle
+unfoldable pub notedAt : List ℕ → ℕ → ℕ → Bool
+notedAt phandles p i = eqb (getD phandles i 0) p
+
+abbrev pub ArePhandles : List ℕ → List Node → Type 0
+ArePhandles phandles nodes = phandles ≡ padded mostFeatures 0 (map notedOf nodes)
+
+-- the features that some nodes are, and no more
+abbrev pub AreFeatures : List Feature → List Node → Type 0
+AreFeatures features nodes = features ≡ padded mostFeatures noFeature (map featureOf nodes)
+
+-- a bit number
+pub record BitIs (needed : Bool) (v : Value) (r : CellRead) : Type 0 where
+  pub judged : (at : ℕ) → Judged (bitChecks at needed v) (numberOf (r .refusal)) at
+  pub cell : numberOf (r .refusal) ≡ 0 → r .cell ≡ cellOf v
+
+-- a phandle behind the features of some nodes
+pub record PhandleIs (phandles : List ℕ) (n : ℕ) (v : Value) (r : CellRead) : Type 0 where
+  pub judged : (before : List Node) → ArePhandles phandles before → n ≡ length before → (at : ℕ) → Judged (phandleChecks at before v) (numberOf (r .refusal)) at
+  pub cell : numberOf (r .refusal) ≡ 0 → r .cell ≡ cellOf v
+
+-- the cells of a feature's properties, each by itself
+pub record CellsAre (tree : List ℕ) (b : Blocks) (first : ℕ) (phandles : List ℕ) (n : ℕ) (r : FeatureCells) : Type 0 where
+  pub isa : CellIs true (valueIn (bytes "isa") (treeTokens tree b first)) (r .isa)
+  pub usable : CellIs true (valueIn (bytes "usable-privilege") (treeTokens tree b first)) (r .«usable_privilege»)
+  pub hv : CellIs false (valueIn (bytes "hv-support") (treeTokens tree b first)) (r .«hv_support»)
+  pub os : CellIs false (valueIn (bytes "os-support") (treeTokens tree b first)) (r .«os_support»)
+  pub hfscr : BitIs (lowBit (r .«hv_support» .cell)) (valueIn (bytes "hfscr-bit-nr") (treeTokens tree b first)) (r .«hfscr_bit_nr»)
+  pub fscr : BitIs (lowBit (r .«os_support» .cell)) (valueIn (bytes "fscr-bit-nr") (treeTokens tree b first)) (r .«fscr_bit_nr»)
+  pub hwcap : BitIs (lowBit (r .«usable_privilege» .cell)) (valueIn (bytes "hwcap-bit-nr") (treeTokens tree b first)) (r .«hwcap_bit_nr»)
+  pub phandle : PhandleIs phandles n (valueIn (bytes "phandle") (treeTokens tree b first)) (r .phandle)
+  pub dependencies : CountIs (valueIn (bytes "dependencies") (treeTokens tree b first)) (r .dependencies)
+
+-- the first of two numbers that is a refusal
+abbrev pub firstOf : ℕ → ℕ → ℕ
+firstOf zero n = n
+firstOf (suc m) n = suc m
+
+abbrev pub refusalOf : FeatureCells → ℕ
+refusalOf c =
+    firstOf (numberOf (c .isa .refusal))
+    (firstOf (numberOf (c .«usable_privilege» .refusal))
+    (firstOf (numberOf (c .«hv_support» .refusal))
+    (firstOf (numberOf (c .«os_support» .refusal))
+    (firstOf (numberOf (c .«hfscr_bit_nr» .refusal))
+    (firstOf (numberOf (c .«fscr_bit_nr» .refusal))
+    (firstOf (numberOf (c .«hwcap_bit_nr» .refusal))
+    (firstOf (numberOf (c .phandle .refusal)) (firstOf (numberOf (c .dependencies .refusal)) 0))))))))
+
+abbrev pub isGivenCell : Cell → Bool
+isGivenCell Absent = false
+isGivenCell (Given n) = true
+
+abbrev pub givenBits : FeatureCells → ℕ
+givenBits c =
+    oneIf (isGivenCell (c .isa .cell)) * 1
+    + oneIf (isGivenCell (c .«usable_privilege» .cell)) * 2
+    + oneIf (isGivenCell (c .«hv_support» .cell)) * 4
+    + oneIf (isGivenCell (c .«os_support» .cell)) * 8
+    + oneIf (isGivenCell (c .«hfscr_bit_nr» .cell)) * 16
+    + oneIf (isGivenCell (c .«fscr_bit_nr» .cell)) * 32
+    + oneIf (isGivenCell (c .«hwcap_bit_nr» .cell)) * 64
+    + oneIf (isGivenCell (c .phandle .cell)) * 128
+    + oneIf (isGivenCell (c .dependencies .cell)) * 256
+
+abbrev pub featureFrom : ℕ → FeatureCells → Feature
+featureFrom at c = record {
+  offset = at;
+  given = givenBits c;
+  isa = numberIn (c .isa .cell);
+  «usable_privilege» = numberIn (c .«usable_privilege» .cell);
+  «hv_support» = numberIn (c .«hv_support» .cell);
+  «os_support» = numberIn (c .«os_support» .cell);
+  «hfscr_bit_nr» = numberIn (c .«hfscr_bit_nr» .cell);
+  «fscr_bit_nr» = numberIn (c .«fscr_bit_nr» .cell);
+  «hwcap_bit_nr» = numberIn (c .«hwcap_bit_nr» .cell);
+  phandle = numberIn (c .phandle .cell);
+  dependencies = numberIn (c .dependencies .cell);
+}
+
+-- one feature behind others: what its checks find, and the feature where they find nothing
+pub record FeatureIs (before : List Node) (n : Node) (r : FeatureRead) : Type 0 where
+  pub judged : Judged (featureChecks before n) (numberOf (r .refusal)) (n .at)
+  pub feature : numberOf (r .refusal) ≡ 0 → r .feature ≡ featureOf n
+
+abbrev pub ReadsFeature : List ℕ → Blocks → NodePlace → List ℕ → ℕ → FeatureRead → Type 0
+ReadsFeature tree b p phandles i r = (before : List Node) (n : Node) → IsNode tree b n p → ArePhandles phandles before → i ≡ length before → FeatureIs before n r
+
+-- places that are those of some nodes, at most 64 of them
+pub record AtPlaces (tree : List ℕ) (b : Blocks) (fs : Features) (nodes : List Node) : Type 0 where
+  pub count : fs .count ≡ length nodes
+  pub few : length nodes ≤ mostFeatures
+  pub places : AreNodes tree b nodes (fs .nodes)
+  pub low : (i : ℕ) → i < length nodes → nodeAt nodes i .at ≤ largestTree
+
+abbrev pub SomeNodes : List ℕ → Blocks → Features → Type 0
+SomeNodes tree b fs = (nodes : List Node) × AtPlaces tree b fs nodes
+
+abbrev pub FewEach : List Node → Type 0
+FewEach nodes = (i : ℕ) → i < length nodes → length (cellsOf (valueOf (nodeAt nodes i) "dependencies")) ≤ mostDependencies
+
+-- all features
+pub record FeaturesAre (nodes : List Node) (r : FeaturesRead) : Type 0 where
+  pub judged : Judged (inOrder featureChecks [] nodes) (numberOf (r .refusal)) (r .place)
+  pub features : numberOf (r .refusal) ≡ 0 → AreFeatures (r .features) nodes
+  pub phandles : numberOf (r .refusal) ≡ 0 → ArePhandles (r .phandles) nodes
+  pub few : numberOf (r .refusal) ≡ 0 → FewEach nodes
+
+abbrev pub ReadsFeatures : List ℕ → Blocks → Features → FeaturesRead → Type 0
+ReadsFeatures tree b fs r = (nodes : List Node) → AtPlaces tree b fs nodes → FeaturesAre nodes r
+
+-- where cells lie in a tree
+pub record CellsLie (tree : List ℕ) (ps : List ℕ) (from : ℕ) : Type 0 where
+  pub within : from + 4 * length ps ≤ length tree
+  pub each : (j : ℕ) → j < length ps → cellAt tree (from + 4 * j) ≡ getD ps j 0
+
+-- the slots of phandles, behind others; a phandle that no feature carries
+pub record Resolves (nodes : List Node) (ps : List ℕ) (at : ℕ) (old new : List ℕ) (r : Bool) : Type 0 where
+  pub found : r ≡ true → (xs : List ℕ) → length xs ≡ at → old ≡ padded slotCount 0 xs
+      → new ≡ padded slotCount 0 (xs ++ map (λ (p : ℕ). slotOf (carrier nodes p)) ps)
+  pub hold : r ≡ true → (place : ℕ) → AllHold (cellChecks place nodes ps)
+  pub fail : r ≡ false → (place : ℕ) → FirstFailing (cellChecks place nodes ps) 13 place
+
+abbrev pub ResolvesCells : List ℕ → ℕ → ℕ → List ℕ → ℕ → ℕ → List ℕ → List ℕ → Bool → Type 0
+ResolvesCells tree from n phandles count at old new r =
+    (nodes : List Node) (ps : List ℕ) → ArePhandles phandles nodes → count ≡ length nodes → n ≡ length ps → CellsLie tree ps from
+    → Resolves nodes ps at old new r
+
+-- places of nodes whose features were read
+pub record Known (tree : List ℕ) (b : Blocks) (fs : Features) (read : FeaturesRead) (nodes : List Node) : Type 0 where
+  pub at : AtPlaces tree b fs nodes
+  pub features : AreFeatures (read .features) nodes
+  pub phandles : ArePhandles (read .phandles) nodes
+  pub few : FewEach nodes
+
+abbrev pub SomeKnown : List ℕ → Blocks → Features → FeaturesRead → Type 0
+SomeKnown tree b fs read = (nodes : List Node) × Known tree b fs read nodes
+
+-- all dependencies
+pub record SlotsAre (nodes : List Node) (r : SlotsRead) : Type 0 where
+  pub judged : Judged (carrierChecks nodes nodes) (numberOf (r .refusal)) (r .place)
+  pub slots : numberOf (r .refusal) ≡ 0 → r .slots ≡ padded slotCount 0 (slotsOf nodes nodes)
+
+abbrev pub ResolvesAll : List ℕ → Blocks → Features → FeaturesRead → SlotsRead → Type 0
+ResolvesAll tree b fs read r = (nodes : List Node) → Known tree b fs read nodes → SlotsAre nodes r
+
+-- "each one string with its zero byte"
+abbrev pub holdsText : List ℕ → Value → Bool
+holdsText text missing = false
+holdsText text (value bs) = isString bs text
+
+-- a container's own properties: what their checks find, and its `isa` where they find nothing
+pub record ContainerIs (c : Node) (r : CellRead) : Type 0 where
+  pub judged : Judged (containerProperties c) (numberOf (r .refusal)) (c .at)
+  pub isa : numberOf (r .refusal) ≡ 0 → r .cell ≡ cellOf (valueOf c "isa")
+
+abbrev pub ReadsContainer : List ℕ → Blocks → ℕ → CellRead → Type 0
+ReadsContainer tree b first r = (c : Node) → ((name : List ℕ) → valueIn name (c .behind) ≡ valueIn name (treeTokens tree b first)) → ContainerIs c r
+
+-- a container, its `isa` and the places of its features
+pub record Contains (tree : List ℕ) (b : Blocks) (number-read : ℕ) (fs : Features) (c : Node) : Type 0 where
+  pub nodes : AtPlaces tree b fs (children c)
+  pub isa : number-read ≡ number (valueOf c "isa")
+
+abbrev pub SomeContainer : List ℕ → Blocks → ℕ → Features → Type 0
+SomeContainer tree b isa fs = (c : Node) × Contains tree b isa fs c
+
+-- the last of the reading: the features' properties, and their dependencies
+unfoldable pub readFeatures : Node → Placed Record
+readFeatures c =
+    firstFault (refuseAt noFeatures) (inOrder featureChecks [] (children c) ++ carrierChecks (children c) (children c)) (placed (recordOf c))
+
+abbrev pub ReadsRecord : List ℕ → Blocks → ℕ → Features → Placed Record → Type 0
+ReadsRecord tree b isa fs r = (c : Node) → Contains tree b isa fs c → r ≡ readFeatures c

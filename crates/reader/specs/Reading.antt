@@ -3,7 +3,7 @@ use Prim.Native.Nat.{ℕ, zero, suc}
 use mathlib.Core.List.{List, [], _∷_, _++_, map}
 use lib.Dec.{leb}
 use lib.ListN.{length}
-use Rattle.refusal.specs.Refusal.{Fault, fault, Placed, placed, refuseAt}
+use Rattle.refusal.specs.Refusal.{Fault, fault, Placed, placed, refuseAt, numberOf}
 use Rattle.refusal.specs.Checks.{Check, check, firstFault}
 use Rattle.cells.specs.Rows.{padded}
 use Rattle.cells.specs.Strings.{unended}
@@ -14,6 +14,7 @@ use Rattle.walk.specs.Checked.{checkTree}
 use Rattle.walk.specs.declared.Layout.{Layout}
 use Rattle.record.specs.declared.Record.{Record}
 use Rattle.record.specs.Record.{mostFeatures, slotCount, noFeature, noFeatures}
+use Rattle.reader.specs.declared.Read.{Read}
 use Rattle.reader.specs.Nodes.{Node, node, nodesNamed, children}
 use Rattle.reader.specs.Values.{valueOf, isText, isCell, number}
 use Rattle.reader.specs.Features.{inOrder, nameChecks, featureChecks, featureOf}
@@ -83,3 +84,7 @@ afterWalk tree checked = elim (checked .number) [
 
 unfoldable pub readRecord : List ℕ → Placed Record
 readRecord tree = afterWalk tree (checkTree tree)
+
+-- what an answer says: the number of document 01, the place, and the record
+abbrev pub readOutcome : Read → Placed Record
+readOutcome r = record { number = numberOf (r .refusal); place = r .place; value = r .«record» }

@@ -1,0 +1,107 @@
+-- What is noted of the features' phandles. Assumes nothing.
+use mathlib.Core.Path.{_≡_, refl, sym, ap, _∙_}
+use mathlib.Core.Bool.{Bool, true, false}
+use mathlib.Core.List.{List, [], _∷_, map}
+use Prim.Native.Nat.{ℕ, zero, suc, _+_, _-_, _<_, _≤_}
+use native.Mathlib.Omega.{arith}
+use borrow.Author.Count.{below-none, below-more}
+use borrow.Author.Tests.{eq-eqb, ne-eqb}
+use lib.Dec.{eqb}
+use lib.ListN.{length, getD, replicate, length-map, List·getD-append}
+use Rattle.cells.specs.Rows.{padded}
+use Rattle.tokens.specs.Steps.{pick}
+use Rattle.record.specs.Record.{mostFeatures}
+use Rattle.reader.specs.Nodes.{Node}
+use Rattle.reader.specs.Values.{Value, missing, value, valueOf}
+use Rattle.reader.specs.Features.{isCarried, carries}
+use Rattle.reader.specs.Dependencies.{Carrier, nowhere, position, carrierFrom, carrier}
+use Rattle.reader.specs.Resolved.{cellOf}
+use Rattle.reader.specs.Reading.{nodeAt}
+use Rattle.reader.specs.Parts.{FirstThat, notedCell, notedOf, notedAt, ArePhandles}
+
+-- what a row has of the node at an index
+map-at : {A : Type 0} (f : Node → A) (z : A) (ns : List Node) (i : ℕ) → i < length ns → getD (map f ns) i z ≡ f (nodeAt ns i)
+unfolding nodeAt
+map-at f z [] i h = absurd (omega arith)
+map-at f z (n ∷ ns) zero h = refl
+map-at f z (n ∷ ns) (suc i) h = map-at f z ns i (omega arith)
+
+pub row-at : {A : Type 0} (m : ℕ) (z : A) (f : Node → A) (ns : List Node) (i : ℕ) → i < length ns → getD (padded m z (map f ns)) i z ≡ f (nodeAt ns i)
+row-at m z f ns i h =
+    let l : i < length (map f ns) = omega (arith, length-map ns f) in
+    List·getD-append (map f ns) (replicate (m - length (map f ns)) z) z i l ∙ map-at f z ns i h
+
+noted-value : (v : Value) (p : ℕ) → p < 0x100000000 → eqb (notedCell (cellOf v)) p ≡ isCarried p v
+noted-value missing p h = ne-eqb 0x100000000 p (λ e. absurd (omega arith))
+noted-value (value bs) p h = refl
+
+-- a feature carries a phandle where that is what is noted of it
+pub noted-carries : (phandles : List ℕ) (nodes : List Node) → ArePhandles phandles nodes → (p : ℕ) → p < 0x100000000 → (i : ℕ) → i < length nodes
+    → notedAt phandles p i ≡ carries p (nodeAt nodes i)
+unfolding notedAt
+noted-carries phandles nodes h p l i k =
+    ap (λ (xs : List ℕ). eqb (getD xs i 0) p) h
+    ∙ ap (λ (x : ℕ). eqb x p) (row-at mostFeatures 0 notedOf nodes i k)
+    ∙ noted-value (valueOf (nodeAt nodes i) "phandle") p l
+
+-- the search for the first position that passes a test
+module _ (test : ℕ → Bool) (n : ℕ) where
+  pub record Sought (i : ℕ) : Type 0 where
+    pub low : i ≤ n
+    pub before : (k : ℕ) → k < i → test k ≡ false
+
+  pub seek-begins : Sought 0
+  seek-begins = record { low = omega arith; before = below-none (λ (k : ℕ). test k ≡ false) }
+
+  pub seek-more : {i : ℕ} → Sought i → i < n → test i ≡ false → Sought (i + 1)
+  seek-more {i} s h e = record { low = omega arith; before = below-more (λ (k : ℕ). test k ≡ false) i (s .before) e }
+
+  pub seek-found : {i : ℕ} → Sought i → test i ≡ true → FirstThat test n i
+  seek-found s e = record { within = s .low; before = s .before; there = λ l. e }
+
+  pub seek-none : {i r : ℕ} → Sought i → r ≡ n → n ≤ i → FirstThat test n r
+  seek-none {i} {r} s e h = record { within = omega arith; before = λ k l. s .before k (omega arith); there = λ l. absurd (omega arith) }
+
+-- the test, as the code makes it
+pub noted-is : (phandles : List ℕ) (p i : ℕ) → getD phandles i 0 ≡ p → notedAt phandles p i ≡ true
+unfolding notedAt
+noted-is phandles p i e = eq-eqb (getD phandles i 0) p e
+
+pub noted-other : (phandles : List ℕ) (p i : ℕ) → (getD phandles i 0 ≡ p → ⊥) → notedAt phandles p i ≡ false
+unfolding notedAt
+noted-other phandles p i e = ne-eqb (getD phandles i 0) p e
+
+-- the carrier is the first that carries the phandle
+abbrev behind : ℕ → ℕ → List Node → Bool → Carrier
+behind p i ns b = pick b (position i) (carrierFrom p (suc i) ns)
+
+carrier-first : (p i : ℕ) (ns : List Node) (r : ℕ) → r < length ns → ((k : ℕ) → k < r → carries p (nodeAt ns k) ≡ false) → carries p (nodeAt ns r) ≡ true
+    → carrierFrom p i ns ≡ position (i + r)
+unfolding carrierFrom nodeAt
+carrier-first p i [] r h before there = absurd (omega arith)
+carrier-first p i (n ∷ ns) zero h before there = let e : i ≡ i + 0 = omega arith in ap (behind p i ns) there ∙ ap position e
+carrier-first p i (n ∷ ns) (suc r) h before there =
+    let e : suc i + r ≡ i + suc r = omega arith in
+    ap (behind p i ns) (before 0 (omega arith))
+    ∙ carrier-first p (suc i) ns r (omega arith) (λ k l. before (suc k) (omega arith)) there
+    ∙ ap position e
+
+carrier-none : (p i : ℕ) (ns : List Node) → ((k : ℕ) → k < length ns → carries p (nodeAt ns k) ≡ false) → carrierFrom p i ns ≡ nowhere
+unfolding carrierFrom nodeAt
+carrier-none p i [] none = refl
+carrier-none p i (n ∷ ns) none =
+    ap (behind p i ns) (none 0 (omega arith)) ∙ carrier-none p (suc i) ns (λ k l. none (suc k) (omega arith))
+
+module _ (phandles : List ℕ) (nodes : List Node) (h : ArePhandles phandles nodes) {p n r : ℕ} (fits : p < 0x100000000)
+    (count : n ≡ length nodes) (f : FirstThat (notedAt phandles p) n r) where
+  passed : (k : ℕ) → k < r → carries p (nodeAt nodes k) ≡ false
+  passed k l = sym (noted-carries phandles nodes h p fits k (omega (arith, f .within))) ∙ f .before k l
+
+  pub carrier-there : r < n → carrier nodes p ≡ position r
+  carrier-there l =
+      let m : r < length nodes = omega arith in
+      let e : 0 + r ≡ r = omega arith in
+      carrier-first p 0 nodes r m passed (sym (noted-carries phandles nodes h p fits r m) ∙ f .there l) ∙ ap position e
+
+  pub carrier-nowhere : n ≤ r → carrier nodes p ≡ nowhere
+  carrier-nowhere l = carrier-none p 0 nodes (λ k m. passed k (omega arith))

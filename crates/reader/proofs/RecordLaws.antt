@@ -1,0 +1,166 @@
+-- The features of a container, one after the other, and then their dependencies. Assumes nothing.
+use mathlib.Core.Path.{_≡_, refl, sym, ap, subst, _∙_}
+use mathlib.Core.List.{List, [], _∷_, _++_, map}
+use Prim.Native.Nat.{ℕ, zero, suc, _+_, _<_, _≤_}
+use native.Mathlib.Omega.{arith}
+use native.Mathlib.Numerals.{add-one}
+use native.Mathlib.Decide.{decLt}
+use borrow.Author.Tests.{leb-true}
+use lib.ListN.{length, getD, take, set}
+use lib.Seq.{length-take-le, take-all}
+use Rattle.cells.specs.Rows.{padded}
+use Rattle.cells.proofs.Rows.{padded-more}
+use Rattle.refusal.specs.Refusal.{numberOf, Placed, placed, refuseAt, fault}
+use Rattle.header.specs.declared.Blocks.{Blocks}
+use Rattle.header.specs.Header.{largestTree}
+use Rattle.record.specs.declared.Property.the-variants.{Phandle}
+use Rattle.record.specs.Cells.{cell}
+use Rattle.reader.specs.Resolved.{cellIn}
+use Rattle.reader.proofs.Cells.{cell-read}
+use Rattle.record.specs.declared.Record.{Record}
+use Rattle.record.specs.declared.Feature.{Feature}
+use Rattle.record.specs.Record.{mostFeatures, mostDependencies, noFeature, noFeatures}
+use Rattle.reader.specs.declared.Features.{Features}
+use Rattle.reader.specs.declared.FeatureRead.{FeatureRead}
+use Rattle.reader.specs.declared.FeaturesRead.{FeaturesRead}
+use Rattle.reader.specs.declared.SlotsRead.{SlotsRead}
+use Rattle.reader.specs.Nodes.{Node, children}
+use Rattle.reader.specs.Values.{valueOf, cellsOf}
+use Rattle.reader.specs.Features.{inOrder, featureChecks, featureOf}
+use Rattle.reader.specs.Dependencies.{carrierChecks}
+use Rattle.reader.specs.Reading.{nodeAt, recordOf}
+use Rattle.reader.specs.Ends.{AllHold}
+use Rattle.reader.specs.Parts.{noPlace, notedCell, notedOf, ArePhandles, AreFeatures, FeatureIs, ReadsFeature, AtPlaces, FeaturesAre, Known, SlotsAre, Contains, readFeatures}
+use Rattle.reader.proofs.JudgedLaws.{hold-both, fail-left, fail-right, hold-decide, fail-decides}
+use Rattle.reader.proofs.OrderLaws.{order-holds, order-fails}
+
+-- a list of nodes with one more
+take-node : (nodes : List Node) (i : ℕ) → i < length nodes → take (suc i) nodes ≡ take i nodes ++ nodeAt nodes i ∷ []
+unfolding nodeAt
+take-node [] i h = absurd (omega arith)
+take-node (n ∷ nodes) zero h = refl
+take-node (n ∷ nodes) (suc i) h = ap (λ (l : List Node). n ∷ l) (take-node nodes i (omega arith))
+
+map-more : {A : Type 0} (g : Node → A) (ns : List Node) (n : Node) → map g (ns ++ n ∷ []) ≡ map g ns ++ g n ∷ []
+map-more g [] n = refl
+map-more g (m ∷ ns) n = ap (λ (l : List _). g m ∷ l) (map-more g ns n)
+
+map-length : {A : Type 0} (g : Node → A) (ns : List Node) → length (map g ns) ≡ length ns
+map-length g [] = refl
+map-length g (n ∷ ns) = ap suc (map-length g ns)
+
+row-more : {A : Type 0} (m : ℕ) (z : A) (g : Node → A) (nodes : List Node) (i : ℕ) → i < length nodes → length nodes ≤ m
+    → {row : List A} {x : A} → row ≡ padded m z (map g (take i nodes)) → x ≡ g (nodeAt nodes i)
+    → set row i x ≡ padded m z (map g (take (i + 1) nodes))
+row-more m z g nodes i l few {row} {x} e k =
+    let xs = map g (take i nodes) in
+    let n : length xs ≡ i = map-length g (take i nodes) ∙ length-take-le i nodes (omega arith) in
+    let q : set (padded m z xs) (length xs) (g (nodeAt nodes i)) ≡ padded m z (xs ++ g (nodeAt nodes i) ∷ []) = padded-more m z xs (g (nodeAt nodes i)) (omega arith) in
+    rw (e, k, add-one i, take-node nodes i l, map-more g (take i nodes) (nodeAt nodes i)) (subst (λ (j : ℕ). set (padded m z xs) j (g (nodeAt nodes i)) ≡ padded m z (xs ++ g (nodeAt nodes i) ∷ [])) n q)
+
+-- what is noted of a feature
+noted-read : (n : Node) {f : Feature} {x : ℕ} → f ≡ featureOf n → x ≡ notedCell (cell f Phandle) → x ≡ notedOf n
+unfolding cellIn
+noted-read n e q = q ∙ ap (λ (f : Feature). notedCell (cell f Phandle)) e ∙ ap notedCell (cell-read n Phandle)
+
+-- the features before a position were read
+pub record ReadBelow (nodes : List Node) (i : ℕ) (fs : List Feature) (ps : List ℕ) : Type 0 where
+  pub within : i ≤ length nodes
+  pub hold : (j : ℕ) → j < i → AllHold (featureChecks (take j nodes) (nodeAt nodes j))
+  pub features : AreFeatures fs (take i nodes)
+  pub phandles : ArePhandles ps (take i nodes)
+
+pub below-begins : (nodes : List Node) {features : List Feature} {phandles : List ℕ} → AreFeatures features [] → ArePhandles phandles []
+    → ReadBelow nodes 0 features phandles
+below-begins nodes f p = record { within = omega arith; hold = λ j l. absurd (omega arith); features = f; phandles = p }
+
+few-here : (before : List Node) (n : Node) → AllHold (featureChecks before n) → length (cellsOf (valueOf n "dependencies")) ≤ mostDependencies
+unfolding featureChecks
+few-here before n h = leb-true _ _ (h .1 .1 .1 .1 .1 .1 .1 .1 .1 .1 .1 .1 .1 .1 .1 .1 .1 .0)
+
+module _ {tree : List ℕ} {b : Blocks} {fs : Features} {nodes : List Node} (a : AtPlaces tree b fs nodes) where
+  pub place-low : (i : ℕ) → i < fs .count → getD (fs .nodes) i noPlace .at ≤ largestTree
+  place-low i l =
+      let k : i < length nodes = omega (arith, a .count) in
+      omega (arith, a .low i k, a .places i k .offset)
+
+  module _ {i : ℕ} {features : List Feature} {phandles : List ℕ} (w : ReadBelow nodes i features phandles) where
+    module _ (l : i < fs .count) {read : FeatureRead} (r : ReadsFeature tree b (getD (fs .nodes) i noPlace) phandles i read) where
+      inside : i < length nodes
+      inside = omega (arith, a .count)
+
+      here : FeatureIs (take i nodes) (nodeAt nodes i) read
+      here = r (take i nodes) (nodeAt nodes i) (a .places i inside) (w .phandles) (sym (length-take-le i nodes (omega (arith, inside))))
+
+      pub below-more : numberOf (read .refusal) ≡ 0 → {noted : ℕ} → noted ≡ notedCell (cell (read .feature) Phandle)
+          → ReadBelow nodes (i + 1) (set features i (read .feature)) (set phandles i noted)
+      below-more z e = record {
+        within = omega (arith, inside);
+        hold = λ j h. go j h (decLt j i);
+        features = row-more mostFeatures noFeature featureOf nodes i inside (a .few) (w .features) (here .feature z);
+        phandles = row-more mostFeatures 0 notedOf nodes i inside (a .few) (w .phandles) (noted-read (nodeAt nodes i) (here .feature z) e);
+      }
+        where
+          go : (j : ℕ) → j < i + 1 → Dec (j < i) → AllHold (featureChecks (take j nodes) (nodeAt nodes j))
+          go j h (yes k) = w .hold j k
+          go j h (no k) = let e : j ≡ i = omega arith in rw e (here .judged .hold z)
+
+      pub below-refused : (numberOf (read .refusal) ≡ 0 → ⊥) → {all : FeaturesRead} → all .refusal ≡ read .refusal
+          → all .place ≡ getD (fs .nodes) i noPlace .at
+          → FeaturesAre nodes all
+      below-refused z {all} e p = record {
+        judged = record {
+          hold = λ q. absurd (z (sym (ap numberOf e) ∙ q));
+          fail = λ q. rw (e, p, ← (a .places i inside .offset)) (order-fails featureChecks nodes i inside (w .hold) (here .judged .fail z));
+        };
+        features = λ q. absurd (z (sym (ap numberOf e) ∙ q));
+        phandles = λ q. absurd (z (sym (ap numberOf e) ∙ q));
+        few = λ q. absurd (z (sym (ap numberOf e) ∙ q));
+      }
+
+    pub below-done : fs .count ≤ i → {all : FeaturesRead} → numberOf (all .refusal) ≡ 0 → all .features ≡ features → all .phandles ≡ phandles
+        → FeaturesAre nodes all
+    below-done l z f p =
+        let t : take i nodes ≡ nodes = take-all i nodes (omega (arith, a .count)) in
+        let h : (j : ℕ) → j < length nodes → AllHold (featureChecks (take j nodes) (nodeAt nodes j)) = λ j k. w .hold j (omega (arith, a .count)) in
+        record {
+          judged = record { hold = λ q. order-holds featureChecks nodes h; fail = λ q. absurd (q z) };
+          features = λ q. f ∙ w .features ∙ ap (λ (l : List Node). padded mostFeatures noFeature (map featureOf l)) t;
+          phandles = λ q. p ∙ w .phandles ∙ ap (λ (l : List Node). padded mostFeatures 0 (map notedOf l)) t;
+          few = λ q j k. few-here (take j nodes) (nodeAt nodes j) (h j k);
+        }
+
+-- the features, and then their dependencies
+module _ {tree : List ℕ} {b : Blocks} {isa : ℕ} {fs : Features} {c : Node} (g : Contains tree b isa fs c) {read : FeaturesRead} (r : FeaturesAre (children c) read) where
+  pub features-refused : (numberOf (read .refusal) ≡ 0 → ⊥) → {x : Placed Record} → x ≡ refuseAt noFeatures (fault (numberOf (read .refusal)) (read .place))
+      → x ≡ readFeatures c
+  unfolding readFeatures
+  features-refused z e =
+      e
+      ∙ sym (fail-decides (refuseAt noFeatures) _ _ (fail-left (inOrder featureChecks [] (children c)) (carrierChecks (children c) (children c)) (r .judged .fail z)))
+
+  module _ (z : numberOf (read .refusal) ≡ 0) where
+    pub features-known : Known tree b fs read (children c)
+    features-known = record { at = g .nodes; features = r .features z; phandles = r .phandles z; few = r .few z }
+
+    module _ {slots : SlotsRead} (s : SlotsAre (children c) slots) where
+      pub slots-refused : (numberOf (slots .refusal) ≡ 0 → ⊥) → {x : Placed Record}
+          → x ≡ refuseAt noFeatures (fault (numberOf (slots .refusal)) (slots .place))
+          → x ≡ readFeatures c
+      unfolding readFeatures
+      slots-refused q e =
+          e
+          ∙ sym
+          (fail-decides (refuseAt noFeatures) _ _
+          (fail-right (inOrder featureChecks [] (children c)) (carrierChecks (children c) (children c)) (r .judged .hold z) (s .judged .fail q)))
+
+      pub slots-read : numberOf (slots .refusal) ≡ 0
+          → {x : Placed Record} → x ≡ placed (record { isa = isa; count = fs .count; features = read .features; slots = slots .slots }) → x ≡ readFeatures c
+      unfolding readFeatures recordOf
+      slots-read q e =
+          e
+          ∙ same
+          ∙ sym (hold-decide (refuseAt noFeatures) _ _ (hold-both (inOrder featureChecks [] (children c)) (carrierChecks (children c) (children c)) (r .judged .hold z) (s .judged .hold q)))
+        where
+          same : _≡_ {A = Placed Record} (placed (record { isa = isa; count = fs .count; features = read .features; slots = slots .slots })) (placed (recordOf c))
+          same = rw (g .isa, g .nodes .count, r .features z, s .slots q)
