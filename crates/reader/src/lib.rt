@@ -874,7 +874,8 @@ pub fn read_record(tree: &[u8]) -> Read
 {
     let checked = walk::check_tree(tree);
     let refusal = checked.refusal;
-    if refusal::number(refusal) != 0 {
+    let number = refusal::number(refusal);
+    if number != 0 {
         return refused(refusal, checked.place);
     }
     let layout = checked.layout;
