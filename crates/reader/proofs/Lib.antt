@@ -35,4 +35,5 @@ pub mod Located
 pub mod Answers
 pub mod ContainerLaws
 pub mod RepeatLaws
+pub mod WalkedLaws
 pub mod ReadingLaws
