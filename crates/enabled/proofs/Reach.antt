@@ -7,20 +7,12 @@ use mathlib.Core.Logic.{_↔_}
 use borrow.Author.Tests.{eqb-true, eq-eqb, not-true, not-false}
 use lib.Dec.{eqb}
 use Rattle.positions.specs.Below.{every}
+use Rattle.positions.proofs.BelowLaws.{some-every}
 use Rattle.enabled.specs.Graph.{Below}
 use Rattle.enabled.specs.Enabled.{afterSweeps}
 use Rattle.enabled.specs.Chain.{Chain, end, link}
-use Rattle.enabled.specs.Reach.{Needs, self, via, some, reach}
+use Rattle.enabled.specs.Reach.{Needs, self, via, reach}
 use Rattle.enabled.proofs.Chains.{left-out-chain, chain-left-out}
-
-some-every : (n : ℕ) (p q : ℕ → Bool) → ((i : ℕ) → p i ≡ not (q i)) → some n p ≡ not (every n q)
-unfolding some every
-some-every zero p q f = refl
-some-every (suc n) p q f = rw (some-every n p q f, f n) (or-not (every n q) (q n))
-  where
-    or-not : (a b : Bool) → not a || not b ≡ not (a && b)
-    or-not true b = refl
-    or-not false b = refl
 
 -- every position but one
 abbrev allBut : ℕ → ℕ → Bool

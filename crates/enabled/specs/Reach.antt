@@ -1,19 +1,14 @@
 -- The positions that a position reaches, and the enabled set by them (document 01, "Permitted and enabled").
 use Prim.Native.Nat.{ℕ, zero, suc, _<_}
-use mathlib.Core.Bool.{Bool, false, not, _||_}
+use mathlib.Core.Bool.{Bool, not, _||_}
 use lib.Dec.{eqb}
-use Rattle.positions.specs.Below.{every}
+use Rattle.positions.specs.Below.{every, some}
 
 module _ (num : ℕ → ℕ) (dep : ℕ → ℕ → ℕ) where
   -- "for each feature itself and all it needs, directly or not", as a relation
   pub data Needs : ℕ → ℕ → Type 0 where
     self : {i : ℕ} → Needs i i
     via : {i t : ℕ} (j : ℕ) → j < num i → Needs (dep i j) t → Needs i t
-
--- some position below n passes a test
-unfoldable pub some : ℕ → (ℕ → Bool) → Bool
-some zero p = false
-some (suc n) p = some n p || p n
 
 -- "the reach table": t is i, or is reached from i by at most k dependencies
 unfoldable pub reach : (ℕ → ℕ) → (ℕ → ℕ → ℕ) → ℕ → ℕ → ℕ → Bool

@@ -1,12 +1,12 @@
 -- Laws of tests of the positions below a bound. Assumes nothing.
 use Prim.Native.Nat.{ℕ, zero, suc, _+_, _≤_, _<_}
 use mathlib.Core.Path.{_≡_, refl, sym, ap₂}
-use mathlib.Core.Bool.{Bool, true, false, _&&_}
+use mathlib.Core.Bool.{Bool, true, false, not, _&&_, _||_}
 use mathlib.Core.Logic.{⊎-elim}
 use native.Mathlib.Nat.{not-suc-le-zero, eq-or-lt-of-le, le-of-suc-le-suc, add-zero, add-assoc, add-suc}
 use native.Mathlib.Numerals.{add-one}
 use native.Mathlib.Omega.{arith}
-use Rattle.positions.specs.Below.{every, oneIf, count}
+use Rattle.positions.specs.Below.{every, some, oneIf, count}
 
 pub and-left : (a b : Bool) → a && b ≡ true → a ≡ true
 and-left true b e = refl
@@ -57,6 +57,16 @@ pub every-same : (n : ℕ) (p q : ℕ → Bool) → ((i : ℕ) → i < n → p i
 unfolding every
 every-same zero p q f = refl
 every-same (suc n) p q f = ap₂ _&&_ (every-same n p q (λ i h. f i (omega arith))) (f n (omega arith))
+
+-- some position passes a test where not every position fails it
+pub some-every : (n : ℕ) (p q : ℕ → Bool) → ((i : ℕ) → p i ≡ not (q i)) → some n p ≡ not (every n q)
+unfolding some every
+some-every zero p q f = refl
+some-every (suc n) p q f = rw (some-every n p q f, f n) (or-not (every n q) (q n))
+  where
+    or-not : (a b : Bool) → not a || not b ≡ not (a && b)
+    or-not true b = refl
+    or-not false b = refl
 
 pub count-same : (n : ℕ) (p q : ℕ → Bool) → ((i : ℕ) → i < n → p i ≡ q i) → count n p ≡ count n q
 unfolding count

@@ -1,2 +1,5 @@
 pub mod BelowLaws
 pub mod BitLaws
+pub mod SetLaws
+pub mod MemberLaws
+pub mod SetCodeLaws
