@@ -1,7 +1,8 @@
 """Header, walk and property lookup: document 01's "The walk" and "CPU properties and unit text", restated in Python.
 
-`check` gives (number, place) of a lent tree: the first fault of header or walk, or (0, 0). `containers` gives the
-offsets of the nodes that bear the container's name. `lookup` looks for a property in two blocks of properties.
+`check` gives (number, place) of a lent tree: the first fault of header or walk, or (0, 0). `read` gives the nodes of an
+accepted one beside it, and `containers` the offsets of those that bear the container's name. `lookup` looks for a
+property in two blocks of properties.
 
 A block is first cut into tokens, as far as that can be done; the walk then goes through the list of tokens with a
 table of what is in place in which state, and a stack of the nodes that are open. Codes such as W2 and P1 name
@@ -150,12 +151,16 @@ IN_PLACE = {
     AFTER_ROOT: {END},
 }
 
+# `at` is the place of the begin token, `parent` the index of the node that holds it, None for the root; `properties`
+# are values by name.
+Node = collections.namedtuple("Node", "at parent name properties")
+
 
 def walk(block, strings):
-    """(number, place in the block, places of the containers) of a structure block."""
+    """(number, place in the block, nodes in tree order) of a structure block; `at` counts from the block's start."""
     state = BEFORE_ROOT
-    nodes = []  # for each open node, the names of its properties so far
-    containers = []
+    nodes = []
+    open_nodes = []  # their indices
     for token in tokens(block):
         if token.kind == NOP:
             continue
@@ -164,43 +169,44 @@ def walk(block, strings):
         if token.kind == BEGIN:
             if token.name is None:
                 return NAME, token.at, []
-            if not (NODE_NAME.fullmatch(token.name) if nodes else token.name == b""):
+            if not (NODE_NAME.fullmatch(token.name) if open_nodes else token.name == b""):
                 return NAME, token.at, []
-            if len(nodes) == MOST_LEVELS:
+            if len(open_nodes) == MOST_LEVELS:
                 return TOO_MANY, token.at, []
-            if token.name == CONTAINER:
-                containers.append(token.at)
-            nodes.append(set())
+            parent = open_nodes[-1] if open_nodes else None
+            open_nodes.append(len(nodes))
+            nodes.append(Node(token.at, parent, token.name, {}))
             state = PROPERTIES
         elif token.kind == PROPERTY:
             name = property_name(token, strings)
             if name is None:
                 return NAME, token.at, []
-            if name in nodes[-1]:
+            given = nodes[open_nodes[-1]].properties
+            if name in given:
                 return GIVEN_TWICE, token.at, []
-            nodes[-1].add(name)
+            given[name] = block[token.at + 12 : token.at + token.length]
         elif token.kind == END_NODE:
-            nodes.pop()
-            state = CHILDREN if nodes else AFTER_ROOT
+            open_nodes.pop()
+            state = CHILDREN if open_nodes else AFTER_ROOT
         else:
             state = DONE
     if state != DONE:
         return TOKEN, len(block), []
-    return ACCEPTED, 0, containers
+    return ACCEPTED, 0, nodes
 
 
 def read(tree):
-    """(number, place, places of the containers) of a lent tree."""
+    """(number, place, nodes in tree order) of a lent tree; no nodes of a refused one."""
     number, place = header_fault(tree)
     if number:
         return number, place, []
     header = read_header(tree)
     block = tree[header.structure_at :][: header.structure_size]
     strings = tree[header.strings_at :][: header.strings_size]
-    number, place, containers = walk(block, strings)
+    number, place, nodes = walk(block, strings)
     if number:
         return number, header.structure_at + place, []
-    return ACCEPTED, 0, [header.structure_at + at for at in containers]
+    return ACCEPTED, 0, [node._replace(at=header.structure_at + node.at) for node in nodes]
 
 
 def check(tree):
@@ -210,7 +216,7 @@ def check(tree):
 
 def containers(tree):
     """The offsets of the begin tokens of the container's name, in tree order; none in a refused tree."""
-    return read(tree)[2]
+    return [node.at for node in read(tree)[2] if node.name == CONTAINER]
 
 
 # Property lookup

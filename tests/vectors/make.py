@@ -22,9 +22,10 @@ PROGRAM = TESTS.parent / "crates" / "vectors"
 
 sys.path.insert(0, str(TESTS))
 
-from vectors import damage, lookups, properties, trees  # noqa: E402 (found by the path above)
+# Found by the path above.
+from vectors import damage, lookups, properties, record_chance, record_faults, records, trees  # noqa: E402
 
-MODULES = (properties, trees, damage, lookups)
+MODULES = (properties, trees, damage, lookups, records, record_faults, record_chance)
 
 # The most bytes of a vector that the program has room for.
 MOST_BYTES = 70000

@@ -43,8 +43,10 @@ PROPERTY_CHARACTERS = NODE_CHARACTERS + b"?#"
 
 # The places are those that `fdtdump --debug` prints.
 BUILT = {
+    "dependencies": accepted_line([0x40]),
     "empty-values": accepted_line([]),
     "features": accepted_line([0x4C]),
+    "grandchildren": accepted_line([0x4C]),
     "levels-16": accepted_line([0x1A0]),
     "levels-17": refused_line(8, 0x1B8),
     "many-properties": accepted_line([]),
@@ -54,6 +56,8 @@ BUILT = {
     "no-features": accepted_line([0x40]),
     "node-name-64": refused_line(7, 0x88),
     "power9": accepted_line([0x4CC]),
+    "power9-features": accepted_line([0x4C]),
+    "power9-reduced": accepted_line([0x624]),
     "property-name-32": refused_line(7, 0x6C),
     "pseries": refused_line(7, 0x164),
     "same-names": accepted_line([]),

@@ -5,6 +5,7 @@
 // come, and its modules list the kinds. Whatever is no vector ends the run with the line `bad vector`.
 mod cpu;
 mod line;
+mod records;
 mod trees;
 
 use libc::STDIN_FILENO;
@@ -46,6 +47,7 @@ fn answer(out: &mut Buffer, kind: u8, value: &mut [u8]) -> usize {
         b'f' => cpu::bus_frequency(out, value),
         b't' => trees::tree(out, value),
         b'l' => trees::property_lookup(out, value),
+        b'r' => records::record(out, value),
         _ => 0,
     }
 }
