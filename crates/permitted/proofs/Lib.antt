@@ -1,0 +1,4 @@
+pub mod PermittedLaws
+pub mod AskedLaws
+pub mod GrantLaws
+pub mod Answers
