@@ -7,3 +7,12 @@ pub mod ByReach
 pub mod Smallest
 pub mod Shortest
 pub mod Demand3
+pub mod RowLaws
+pub mod TableLaws
+pub mod NeedsLaws
+pub mod PassLaws
+pub mod SweepLaws
+pub mod ThroughLaws
+pub mod JoinLaws
+pub mod InsideLaws
+pub mod AnswerLaws

@@ -68,6 +68,26 @@ some-every (suc n) p q f = rw (some-every n p q f, f n) (or-not (every n q) (q n
     or-not true b = refl
     or-not false b = refl
 
+-- a position that passes, and where there is one
+or-true : (b : Bool) → b || true ≡ true
+or-true true = refl
+or-true false = refl
+
+pub some-at : (n : ℕ) (p : ℕ → Bool) (j : ℕ) → j < n → p j ≡ true → some n p ≡ true
+unfolding some
+some-at zero p j h e = absurd (not-suc-le-zero h)
+some-at (suc n) p j h e =
+    ⊎-elim (λ q. let r : p n ≡ true = rw q at e in rw r (or-true (some n p))) (λ l. rw (some-at n p j l e)) (eq-or-lt-of-le (le-of-suc-le-suc h))
+
+pub some-is : (n : ℕ) (p : ℕ → Bool) → some n p ≡ true → (j : ℕ) × (j < n) × (p j ≡ true)
+unfolding some
+some-is zero p e = no-way false e refl
+some-is (suc n) p e = go (some n p) refl (λ h. some-is n p h)
+  where
+    go : (b : Bool) → some n p ≡ b → (some n p ≡ true → (j : ℕ) × (j < n) × (p j ≡ true)) → (j : ℕ) × (j < suc n) × (p j ≡ true)
+    go true q ih = let r = ih q in (r .0, omega (arith, r .1), r .2)
+    go false q ih = (n, omega arith, cc)
+
 pub count-same : (n : ℕ) (p q : ℕ → Bool) → ((i : ℕ) → i < n → p i ≡ q i) → count n p ≡ count n q
 unfolding count
 count-same zero p q f = refl

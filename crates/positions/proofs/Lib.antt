@@ -3,3 +3,4 @@ pub mod BitLaws
 pub mod SetLaws
 pub mod MemberLaws
 pub mod SetCodeLaws
+pub mod FillLaws

@@ -3,6 +3,7 @@ use Prim.Native.Nat.{ℕ, zero, suc, _+_, _-_, _/_, _%_, _^_, _≤_, _<_}
 use mathlib.Core.Path.{_≡_, refl, sym, ap, ap₂, _∙_}
 use mathlib.Core.Bool.{Bool, true, false, not, _&&_, _||_}
 use mathlib.Core.List.{List}
+use native.Mathlib.Decide.{decLt}
 use native.Mathlib.Omega.{arith}
 use borrow.Author.Tests.{lt-ltb, le-ltb}
 use lib.Bits.{bitOr, or-lt}
@@ -11,8 +12,8 @@ use lib.ListN.{getD}
 use lib.Pow.{pow-lt}
 use Rattle.positions.specs.Below.{count}
 use Rattle.positions.specs.Sets.{setWords, room, has, insertAt, collect, setOf, withMember, withoutMember, common, isSubset, memberCount}
-use Rattle.positions.proofs.BelowLaws.{no-way, every-at, every-of, count-same, count-add}
-use Rattle.positions.proofs.SetLaws.{WordList, has-insert, set-words, collect-words, has-collect, set-ext}
+use Rattle.positions.proofs.BelowLaws.{no-way, every-at, every-of, count-same, count-eq, count-add}
+use Rattle.positions.proofs.SetLaws.{WordList, has-insert, set-words, collect-words, collect-same, has-collect, set-ext}
 
 -- the set of the positions that pass a test
 pub has-set-of : (p : ℕ → Bool) (j : ℕ) → j < room → has (setOf p) j ≡ p j
@@ -29,6 +30,10 @@ set-of-words p = collect-words setWords room p
 
 pub set-of-is : (ws : List ℕ) (p : ℕ → Bool) → WordList setWords ws → ((j : ℕ) → j < room → has ws j ≡ p j) → ws ≡ setOf p
 set-of-is ws p g f = set-ext ws (setOf p) g (set-of-words p) (λ j h. f j h ∙ sym (has-set-of p j h))
+
+pub set-of-same : (p q : ℕ → Bool) → ((j : ℕ) → j < room → p j ≡ q j) → setOf p ≡ setOf q
+unfolding setOf
+set-of-same p q f = collect-same setWords room p q f
 
 -- the members of a set with a position, of one without it, and of two sets
 pub with-member : (ws : List ℕ) (i j : ℕ) → j < room → has (withMember ws i) j ≡ has ws j || eqb i j
@@ -85,6 +90,22 @@ subset-at a b e i h = implied (has a i) (has b i) (every-at room (λ j. not (has
 pub subset-of : (a b : List ℕ) → ((i : ℕ) → i < room → has a i ≡ true → has b i ≡ true) → isSubset a b ≡ true
 unfolding isSubset
 subset-of a b f = every-of room (λ j. not (has a j) || has b j) (λ i h. implies (has a i) (has b i) (f i h))
+
+pub subset-same : (a : List ℕ) → isSubset a a ≡ true
+subset-same a = subset-of a a (λ i h e. e)
+
+pub subset-on : (a b c : List ℕ) → isSubset a b ≡ true → isSubset b c ≡ true → isSubset a c ≡ true
+subset-on a b c p q = subset-of a c (λ i h e. subset-at b c q i h (subset-at a b p i h e))
+
+-- a set that has not all the members of another that it is inside of has fewer
+pub fewer-members : (a b : List ℕ) → isSubset a b ≡ true → isSubset b a ≡ false → memberCount a < memberCount b
+unfolding memberCount
+fewer-members a b p q = go (decLt (count room (has a)) (count room (has b)))
+  where
+    go : Dec (count room (has a) < count room (has b)) → count room (has a) < count room (has b)
+    go (yes h) = h
+    go (no h) =
+        no-way (isSubset b a) (subset-of b a (λ i l e. count-eq room (has a) (has b) (λ i l. subset-at a b p i l) (omega arith) i l ∙ e)) q
 
 -- the number of members of a set built by a test
 count-none : (n : ℕ) (p : ℕ → Bool) → ((i : ℕ) → p i ≡ false) → count n p ≡ 0

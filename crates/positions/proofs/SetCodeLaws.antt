@@ -38,7 +38,8 @@ has-word ws i = bit-test (getD ws (i / 64) 0) (i % 64)
 pub past-words : {W : ℕ} (ws : List ℕ) (i : ℕ) → WordList W ws → W ≤ i / 64 → false ≡ has ws i
 past-words ws i g h = sym (has-past ws i (omega (arith, g .size)))
 
-shift-one : (s : ℕ) → s < 64 → 1 * 2 ^ s % 2 ^ 64 ≡ 2 ^ s
+-- one shifted
+pub shift-one : (s : ℕ) → s < 64 → 1 * 2 ^ s % 2 ^ 64 ≡ 2 ^ s
 shift-one s h = shl-exact 1 s 64 (omega arith) (omega arith) ∙ omega arith
 
 -- a position past the last word changes nothing

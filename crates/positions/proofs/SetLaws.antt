@@ -74,7 +74,7 @@ set-words ws k w g h = record { size = length-set ws k w ∙ g .size; small = λ
     go v (yes e) (no l) = rw (set-out ws k w (omega arith)) (g .small v)
     go v (no e) _ = rw (getD-set-other ws k v w 0 e) (g .small v)
 
-zeros : (W v : ℕ) → _≡_ {A = ℕ} (getD (replicate W 0) v 0) 0
+pub zeros : (W v : ℕ) → _≡_ {A = ℕ} (getD (replicate W 0) v 0) 0
 zeros zero v = refl
 zeros (suc W) zero = refl
 zeros (suc W) (suc v) = zeros W v

@@ -1,9 +1,9 @@
 -- Sets of positions as 64-bit words, position 0 being the lowest bit of the first word.
-use Prim.Native.Nat.{ℕ, zero, suc, _*_, _/_, _%_, _^_}
+use Prim.Native.Nat.{ℕ, zero, suc, _-_, _*_, _/_, _%_, _^_, min}
 use mathlib.Core.Bool.{Bool, false, not, _&&_, _||_, cond}
 use mathlib.Core.List.{List}
 use lib.Bits.{bitOr}
-use lib.Dec.{eqb}
+use lib.Dec.{eqb, ltb}
 use lib.ListN.{getD, set, replicate}
 use Rattle.positions.specs.Below.{every, count}
 use Rattle.positions.specs.Bits.{bit}
@@ -49,6 +49,17 @@ withoutMember words i = setOf (λ j. has words j && not (eqb i j))
 -- the members of both of two sets
 unfoldable pub common : List ℕ → List ℕ → List ℕ
 common a b = setOf (λ j. has a j && has b j)
+
+-- the members of either of two sets
+unfoldable pub either : List ℕ → List ℕ → List ℕ
+either a b = setOf (λ j. has a j || has b j)
+
+-- the positions below n, and word w of them
+unfoldable pub firstPositions : ℕ → List ℕ
+firstPositions n = setOf (λ j. ltb j n)
+
+unfoldable pub wordBelow : ℕ → ℕ → ℕ
+wordBelow n w = 2 ^ min (n - wordBits * w) wordBits - 1
 
 -- every member of a is one of b
 unfoldable pub isSubset : List ℕ → List ℕ → Bool

@@ -1,7 +1,21 @@
 // Positions below a bound, the bits of words, and sets of positions.
 ghost use mathlib.Core.Path.{_≡_};
 ghost use Rattle.positions.specs.Bits.{bit};
-ghost use Rattle.positions.specs.Sets.{has, setOf, noMembers, withMember, withoutMember, common, isSubset, memberCount};
+ghost use Prim.Native.Nat.{_<_};
+ghost use Rattle.positions.specs.Sets.{
+  setWords,
+  has,
+  setOf,
+  noMembers,
+  withMember,
+  withoutMember,
+  common,
+  either,
+  wordBelow,
+  firstPositions,
+  isSubset,
+  memberCount,
+};
 
 const WORD_BITS: u32 = 64;
 
@@ -89,6 +103,47 @@ pub fn intersection(a: Set, b: Set) -> Set
     let mut w: usize = 0;
     while w < WORDS {
         t.words[w] = a.words[w] & b.words[w];
+        w += 1;
+    }
+    t
+}
+
+// The members of either of two sets: one step a word.
+pub fn union(a: Set, b: Set) -> Set
+    ensures { λ r. ⌜ r .words ≡ either (a .words) (b .words) ⌝ }
+{
+    let mut t = a;
+    let mut w: usize = 0;
+    while w < WORDS {
+        t.words[w] = a.words[w] | b.words[w];
+        w += 1;
+    }
+    t
+}
+
+// Word `w` of the set of the positions below `n`: all ones, none, or those of the lowest bits.
+fn word_below(n: usize, w: usize) -> u64
+    requires { ⌜ w < setWords ⌝ }
+    ensures { λ r. ⌜ r ≡ wordBelow n w ⌝ }
+{
+    let start = 64 * w;
+    if n <= start {
+        return 0;
+    }
+    if 64 <= n - start {
+        return 18446744073709551615;
+    }
+    (1u64 << (n - start)) - 1
+}
+
+// The positions below a bound: one step a word.
+pub fn below(n: usize) -> Set
+    ensures { λ r. ⌜ r .words ≡ firstPositions n ⌝ }
+{
+    let mut t = empty();
+    let mut w: usize = 0;
+    while w < WORDS {
+        t.words[w] = word_below(n, w);
         w += 1;
     }
     t

@@ -437,10 +437,7 @@ fn low_bit(c: CellRead) -> bool
     ensures { λ r. ⌜ r ≡ lowBit (c .cell) ⌝ }
 {
     let cell = c.cell;
-    match cell {
-        Cell::Absent => false,
-        Cell::Given(n) => positions::bit_set(n as u64, 0),
-    }
+    record::low_bit(cell)
 }
 
 // A bit number, needed where bit 0 of a support cell is set.

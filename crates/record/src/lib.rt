@@ -96,7 +96,7 @@ pub fn dependency_count(f: Feature) -> u32
 }
 
 // Bit 0 of a cell; not set where the cell is absent.
-fn low_bit(c: Cell) -> bool
+pub fn low_bit(c: Cell) -> bool
     ensures { λ r. ⌜ r ≡ lowBit c ⌝ }
 {
     match c {

@@ -1,0 +1,88 @@
+-- `enabled::dependencies` meets its contract. The loop: the set has the slots passed. Assumes nothing.
+use Prim.Native.Nat.{_-_, _≤_}
+use mathlib.Core.Path.{_≡_, ap, _∙_}
+use borrow.Author.Needs.{needs}
+use native.Mathlib.Omega.{arith}
+use Rattle.positions.specs.Sets.{withMember}
+use Rattle.enabled.specs.Parts.{slotSet}
+use Rattle.enabled.proofs.NeedsLaws.{slots-none, slots-more}
+use Rattle.enabled.proofs.dependencies.Statement.{statement}
+use Rattle.enabled.proofs.dependencies.Tie as tie
+use Rattle.enabled.proofs.dependencies.Reads as reads
+use Rattle.enabled.proofs.dependencies.Lts as lts
+use Rattle.enabled.proofs.wide.Reads as wide-reads
+use Rattle.positions.proofs.empty.Reads as empty-reads
+use Rattle.positions.proofs.insert.Reads as insert-reads
+
+abbrev Inv-loop : tie.InvT-loop
+Inv-loop slots i n s₀ j₀ s j = (j ≤ n) × (s .words ≡ slotSet slots i j)
+
+abbrev μ-loop : tie.MeasureT-loop
+μ-loop slots i n s₀ j₀ s j = n - j
+
+-- src/lib.rt:79:9
+empty-requires : tie.Need-empty-requires Inv-loop μ-loop
+empty-requires c κs = search needs
+
+-- src/lib.rt:81:5
+loop-holds : tie.Need-loop-holds Inv-loop μ-loop
+loop-holds c = (omega arith, c .empty .ensures ∙ slots-none _ _)
+
+-- src/lib.rt:82:45
+mul-wide : tie.Need-mul-wide Inv-loop μ-loop
+mul-wide c = search needs
+
+-- src/lib.rt:82:45
+add-wide : tie.Need-add-wide Inv-loop μ-loop
+add-wide c = search needs
+
+-- src/lib.rt:82:39
+mul-wide-2 : tie.Need-mul-wide-2 Inv-loop μ-loop
+mul-wide-2 c = search needs
+
+-- src/lib.rt:82:39
+element-copy-out-wide : tie.Need-element-copy-out-wide Inv-loop μ-loop
+element-copy-out-wide c = search needs
+
+-- src/lib.rt:82:34
+wide-requires : tie.Need-wide-requires Inv-loop μ-loop
+wide-requires c κs = search needs
+
+-- src/lib.rt:82:9
+insert-requires : tie.Need-insert-requires Inv-loop μ-loop
+insert-requires c κs = search needs
+
+-- src/lib.rt:83:9
+add-j : tie.Need-add-j Inv-loop μ-loop
+add-j c = search needs
+
+-- src/lib.rt:81:5
+loop-less : tie.Need-loop-less Inv-loop μ-loop
+loop-less c = omega arith
+
+-- src/lib.rt:81:5
+loop-again : tie.Need-loop-again Inv-loop μ-loop
+loop-again c = (omega arith, c .insert .ensures ∙ ap (withMember _) (c .before .wide .ensures) ∙ slots-more _ _ _ (c .before .before .before .before .loop .inv .1))
+
+-- src/lib.rt:75:1
+returns : tie.Need-returns Inv-loop μ-loop
+returns c = let e : c .before .loop .j ≡ c .before .before .before .args .n = omega arith in c .before .loop .inv .1 ∙ ap (slotSet _ _) e
+
+pub dependencies-spec : {M : Type 1} → statement M
+dependencies-spec =
+    tie.close
+    (tie.spec
+    Inv-loop
+    μ-loop
+    empty-requires
+    loop-holds
+    mul-wide
+    add-wide
+    mul-wide-2
+    element-copy-out-wide
+    wide-requires
+    insert-requires
+    add-j
+    loop-less
+    loop-again
+    returns)

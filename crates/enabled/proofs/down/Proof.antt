@@ -1,0 +1,60 @@
+-- `enabled::down` meets its contract. The loop: members of rows passed are taken out. Assumes nothing.
+use Prim.Native.Nat.{_-_, _≤_}
+use borrow.Author.Needs.{needs}
+use native.Mathlib.Omega.{arith}
+use Rattle.enabled.specs.Parts.{TakesOut}
+use Rattle.enabled.proofs.PassLaws.{takes-none, takes-next}
+use Rattle.enabled.proofs.down.Statement.{statement}
+use Rattle.enabled.proofs.down.Tie as tie
+use Rattle.enabled.proofs.down.Reads as reads
+use Rattle.enabled.proofs.down.Lts as lts
+use Rattle.enabled.proofs.kept.Reads as kept-reads
+use Rattle.enabled.proofs.row.Reads as row-reads
+
+abbrev Inv-loop : tie.InvT-loop
+Inv-loop table n t₀ i₀ t i = (i ≤ n) × TakesOut table n (t₀ .words) (t .words)
+
+abbrev μ-loop : tie.MeasureT-loop
+μ-loop table n t₀ i₀ t i = i
+
+-- src/lib.rt:127:5
+loop-holds : tie.Need-loop-holds Inv-loop μ-loop
+loop-holds c = (omega arith, takes-none _ _ _)
+
+-- src/lib.rt:128:9
+sub-i : tie.Need-sub-i Inv-loop μ-loop
+sub-i c = omega arith
+
+-- src/lib.rt:129:21
+row-requires : tie.Need-row-requires Inv-loop μ-loop
+row-requires c κs = search needs
+
+-- src/lib.rt:129:9
+kept-requires : tie.Need-kept-requires Inv-loop μ-loop
+kept-requires c κs = search needs
+
+-- src/lib.rt:127:5
+loop-less : tie.Need-loop-less Inv-loop μ-loop
+loop-less c = omega arith
+
+-- src/lib.rt:127:5
+loop-again : tie.Need-loop-again Inv-loop μ-loop
+loop-again c = (omega arith, takes-next _ _ (omega arith) _ (omega arith) _ _ _ _ (c .before .row .ensures) (c .kept .ensures) (c .before .before .before .loop .inv .1))
+
+-- src/lib.rt:122:1
+returns : tie.Need-returns Inv-loop μ-loop
+returns c = c .before .loop .inv .1
+
+pub down-spec : {M : Type 1} → statement M
+down-spec =
+    tie.close
+    (tie.spec
+    Inv-loop
+    μ-loop
+    loop-holds
+    sub-i
+    row-requires
+    kept-requires
+    loop-less
+    loop-again
+    returns)

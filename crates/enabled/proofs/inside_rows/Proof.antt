@@ -1,0 +1,68 @@
+-- `enabled::inside_rows` meets its contract. The loop: the positions passed are in the set where their rows are inside. Assumes nothing.
+use Prim.Native.Nat.{_-_, _≤_}
+use mathlib.Core.Path.{_≡_, ap, _∙_}
+use borrow.Author.Needs.{needs}
+use native.Mathlib.Omega.{arith}
+use Rattle.enabled.specs.Parts.{rowsInside}
+use Rattle.enabled.proofs.RowLaws.{row-low}
+use Rattle.enabled.proofs.InsideLaws.{inside-none, inside-more, inside-all}
+use Rattle.enabled.proofs.inside_rows.Statement.{statement}
+use Rattle.enabled.proofs.inside_rows.Tie as tie
+use Rattle.enabled.proofs.inside_rows.Reads as reads
+use Rattle.enabled.proofs.inside_rows.Lts as lts
+use Rattle.enabled.proofs.added.Reads as added-reads
+use Rattle.enabled.proofs.row.Reads as row-reads
+use Rattle.positions.proofs.empty.Reads as empty-reads
+
+abbrev Inv-loop : tie.InvT-loop
+Inv-loop table n p s₀ i₀ s i = (i ≤ n) × (s .words ≡ rowsInside table i (p .words))
+
+abbrev μ-loop : tie.MeasureT-loop
+μ-loop table n p s₀ i₀ s i = n - i
+
+-- src/lib.rt:217:9
+empty-requires : tie.Need-empty-requires Inv-loop μ-loop
+empty-requires c κs = search needs
+
+-- src/lib.rt:219:5
+loop-holds : tie.Need-loop-holds Inv-loop μ-loop
+loop-holds c = (omega arith, c .empty .ensures ∙ inside-none _ _)
+
+-- src/lib.rt:220:22
+row-requires : tie.Need-row-requires Inv-loop μ-loop
+row-requires c κs = search needs
+
+-- src/lib.rt:220:9
+added-requires : tie.Need-added-requires Inv-loop μ-loop
+added-requires c κs = search needs
+
+-- src/lib.rt:221:9
+add-i : tie.Need-add-i Inv-loop μ-loop
+add-i c = search needs
+
+-- src/lib.rt:219:5
+loop-less : tie.Need-loop-less Inv-loop μ-loop
+loop-less c = omega arith
+
+-- src/lib.rt:219:5
+loop-again : tie.Need-loop-again Inv-loop μ-loop
+loop-again c = (omega arith, c .added .ensures ∙ inside-more _ _ _ _ _ (omega arith) (c .before .before .before .loop .inv .1) (c .before .row .ensures ∙ row-low _ _ (omega arith)))
+
+-- src/lib.rt:213:1
+returns : tie.Need-returns Inv-loop μ-loop
+returns c = inside-all _ _ _ _ _ (c .before .loop .inv .1) (omega arith)
+
+pub inside-rows-spec : {M : Type 1} → statement M
+inside-rows-spec =
+    tie.close
+    (tie.spec
+    Inv-loop
+    μ-loop
+    empty-requires
+    loop-holds
+    row-requires
+    added-requires
+    add-i
+    loop-less
+    loop-again
+    returns)

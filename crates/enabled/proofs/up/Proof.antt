@@ -1,0 +1,61 @@
+-- `enabled::up` meets its contract. The loop: the rows passed are tested. Assumes nothing.
+use Prim.Native.Nat.{_-_, _≤_}
+use mathlib.Core.Path.{_≡_, subst}
+use borrow.Author.Needs.{needs}
+use native.Mathlib.Omega.{arith}
+use Rattle.enabled.specs.Parts.{Passes}
+use Rattle.enabled.proofs.PassLaws.{pass-none, pass-next, pass-all}
+use Rattle.enabled.proofs.up.Statement.{statement}
+use Rattle.enabled.proofs.up.Tie as tie
+use Rattle.enabled.proofs.up.Reads as reads
+use Rattle.enabled.proofs.up.Lts as lts
+use Rattle.enabled.proofs.kept.Reads as kept-reads
+use Rattle.enabled.proofs.row.Reads as row-reads
+
+abbrev Inv-loop : tie.InvT-loop
+Inv-loop table n t₀ i₀ t i = (i ≤ n) × Passes table n i (t₀ .words) (t .words)
+
+abbrev μ-loop : tie.MeasureT-loop
+μ-loop table n t₀ i₀ t i = n - i
+
+-- src/lib.rt:114:5
+loop-holds : tie.Need-loop-holds Inv-loop μ-loop
+loop-holds c = (omega arith, pass-none _ _ _)
+
+-- src/lib.rt:115:21
+row-requires : tie.Need-row-requires Inv-loop μ-loop
+row-requires c κs = search needs
+
+-- src/lib.rt:115:9
+kept-requires : tie.Need-kept-requires Inv-loop μ-loop
+kept-requires c κs = search needs
+
+-- src/lib.rt:116:9
+add-i : tie.Need-add-i Inv-loop μ-loop
+add-i c = search needs
+
+-- src/lib.rt:114:5
+loop-less : tie.Need-loop-less Inv-loop μ-loop
+loop-less c = omega arith
+
+-- src/lib.rt:114:5
+loop-again : tie.Need-loop-again Inv-loop μ-loop
+loop-again c = (omega arith, pass-next _ _ (omega arith) _ (omega arith) _ _ _ _ (c .before .row .ensures) (c .kept .ensures) (c .before .before .before .loop .inv .1))
+
+-- src/lib.rt:109:1
+returns : tie.Need-returns Inv-loop μ-loop
+returns c = pass-all _ _ _ _ _ (c .before .loop .inv .1) (omega arith)
+
+pub up-spec : {M : Type 1} → statement M
+up-spec =
+    tie.close
+    (tie.spec
+    Inv-loop
+    μ-loop
+    loop-holds
+    row-requires
+    kept-requires
+    add-i
+    loop-less
+    loop-again
+    returns)

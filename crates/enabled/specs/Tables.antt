@@ -1,0 +1,48 @@
+-- Tables of sets: a row of words for each position (document 01, "The reach table has 64 rows").
+use Prim.Native.Nat.{ℕ, zero, suc, _+_, _*_, min}
+use mathlib.Core.Bool.{Bool, cond}
+use mathlib.Core.List.{List, [], _++_}
+use lib.Dec.{eqb, ltb}
+use lib.ListN.{getD}
+use Rattle.cells.specs.Rows.{each, padded}
+use Rattle.positions.specs.Below.{some}
+use Rattle.positions.specs.Sets.{setWords, has, setOf, noMembers}
+use Rattle.record.specs.declared.Record.{Record}
+use Rattle.record.specs.Record.{mostFeatures, mostDependencies, featureAt, slotAt}
+use Rattle.record.specs.Cells.{dependencyCount}
+
+-- the words of row i
+unfoldable pub rowAt : List ℕ → ℕ → List ℕ
+rowAt table i = each setWords (λ (w : ℕ). getD table (setWords * i + w) 0)
+
+-- row i; none past the last of 64
+unfoldable pub rowOrNone : List ℕ → ℕ → List ℕ
+rowOrNone table i = cond (ltb i mostFeatures) (rowAt table i) (setOf noMembers)
+
+-- position t is in row i
+abbrev pub inRow : List ℕ → ℕ → ℕ → Bool
+inRow table i t = has (rowAt table i) t
+
+-- the rows of the first n positions, each a set
+unfoldable pub rowsBelow : ℕ → (ℕ → ℕ → Bool) → List ℕ
+rowsBelow zero row = []
+rowsBelow (suc n) row = rowsBelow n row ++ setOf (row n)
+
+-- "64 rows, zero from the count on"
+abbrev pub tableWords : ℕ
+tableWords = setWords * mostFeatures
+
+unfoldable pub tableOf : ℕ → (ℕ → ℕ → Bool) → List ℕ
+tableOf n row = padded tableWords 0 (rowsBelow n row)
+
+-- the graph of a record: how many dependencies a position has, and its j-th
+abbrev pub dependenciesIn : Record → ℕ → ℕ
+dependenciesIn r i = dependencyCount (featureAt r i)
+
+abbrev pub dependencyIn : Record → ℕ → ℕ → ℕ
+dependencyIn r i j = slotAt r i j
+
+-- a row of its dependencies for each feature; a record has at most 64 of these, and sixteen of those each
+unfoldable pub dependencyTable : Record → List ℕ
+dependencyTable r =
+    tableOf (min (r .count) mostFeatures) (λ (i t : ℕ). some (min (dependenciesIn r i) mostDependencies) (λ (j : ℕ). eqb (dependencyIn r i j) t))

@@ -1,0 +1,144 @@
+// Capability words, HFSCR and FSCR of an enabled set.
+use permitted::Grants;
+use permitted::HYPERVISOR;
+use permitted::SYSTEM;
+use positions::Set;
+use record::Cell;
+use record::Feature;
+use record::HIGHEST_BIT;
+use record::Property;
+use record::Record;
+use refusal::Refusal;
+ghost use mathlib.Core.Path.{_≡_};
+ghost use mathlib.Core.Bool.{_&&_};
+ghost use Prim.Native.Nat.{_≤_};
+ghost use Rattle.record.specs.Record.{mostFeatures};
+ghost use Rattle.words.specs.Words.{wordsOf, words as wordsAnswer, wordsOutcome};
+ghost use Rattle.words.specs.Parts.{bitWhere, FeatureBits, BitsOf, belowLevel, valuesOf};
+
+// A refusal, or the two capability words, HFSCR and FSCR; zeros beside a refusal.
+pub struct FeatureWords {
+    pub refusal: Refusal,
+    pub hwcap_first: u32,
+    pub hwcap_second: u32,
+    pub hfscr: u64,
+    pub fscr: u64,
+}
+
+// The bits of all enabled features, before level and grants.
+struct Bits {
+    hwcap: u64,
+    hfscr: u64,
+    fscr: u64,
+}
+
+// The two capability words, HFSCR and FSCR.
+struct Values {
+    first: u32,
+    second: u32,
+    hfscr: u64,
+    fscr: u64,
+}
+
+// The word with the bit of a number, where `on`.
+fn bit_where(on: bool, c: Cell) -> u64
+    ensures { λ r. ⌜ r ≡ bitWhere on c ⌝ }
+{
+    if !on {
+        return 0;
+    }
+    match c {
+        Cell::Absent => 0,
+        Cell::Given(n) => {
+            if HIGHEST_BIT < n {
+                return 0;
+            }
+            1u64 << n
+        }
+    }
+}
+
+fn both(a: bool, b: bool) -> bool
+    ensures { λ r. ⌜ r ≡ a && b ⌝ }
+{
+    if a { b } else { false }
+}
+
+// The bits of one feature, where it is enabled.
+fn feature_bits(f: Feature, on: bool) -> Bits
+    ensures { λ x. ⌜ FeatureBits f on x ⌝ }
+{
+    let hv = both(on, record::low_bit(record::cell_of(f, Property::HvSupport)));
+    let os = both(on, record::low_bit(record::cell_of(f, Property::OsSupport)));
+    Bits {
+        hwcap: bit_where(on, record::cell_of(f, Property::HwcapBitNr)),
+        hfscr: bit_where(hv, record::cell_of(f, Property::HfscrBitNr)),
+        fscr: bit_where(os, record::cell_of(f, Property::FscrBitNr)),
+    }
+}
+
+// The bits of the enabled features of a record: one step a feature.
+fn bits_of(r: Record, enabled: Set) -> Bits
+    requires { ⌜ r .count ≤ mostFeatures ⌝ }
+    ensures { λ x. ⌜ BitsOf r (enabled .words) x ⌝ }
+{
+    let n = r.count as usize;
+    let mut hwcap: u64 = 0;
+    let mut hfscr: u64 = 0;
+    let mut fscr: u64 = 0;
+    let mut i: usize = 0;
+    while i < n {
+        let x = feature_bits(r.features[i], positions::member(enabled, i));
+        hwcap = hwcap | x.hwcap;
+        hfscr = hfscr | x.hfscr;
+        fscr = fscr | x.fscr;
+        i += 1;
+    }
+    Bits { hwcap, hfscr, fscr }
+}
+
+fn below_level(upper: u32, level: u32, word: u64) -> u64
+    ensures { λ r. ⌜ r ≡ belowLevel upper level word ⌝ }
+{
+    if level < upper { word } else { 0 }
+}
+
+// The words of an enabled set, at a level under grants.
+fn values_of(r: Record, level: u32, g: Grants, enabled: Set) -> Values
+    requires { ⌜ r .count ≤ mostFeatures ⌝ }
+    ensures { λ x. ⌜ valuesOf x ≡ wordsOf r level g (enabled .words) ⌝ }
+{
+    let bits = bits_of(r, enabled);
+    let hwcap = below_level(SYSTEM, level, bits.hwcap);
+    Values {
+        first: (hwcap % 0x100000000) as u32,
+        second: (hwcap / 0x100000000) as u32,
+        hfscr: below_level(HYPERVISOR, level, bits.hfscr & g.hfscr),
+        fscr: below_level(SYSTEM, level, bits.fscr & g.fscr),
+    }
+}
+
+// The words of a record at a level under grants.
+pub fn words(r: Record, level: u32, g: Grants) -> FeatureWords
+    ensures { λ w. ⌜ wordsOutcome w ≡ wordsAnswer r level g ⌝ }
+{
+    let e = enabled::enable(r, level, g);
+    let refusal = e.refusal;
+    if refusal::number(refusal) != 0 {
+        return FeatureWords {
+            refusal,
+            hwcap_first: 0,
+            hwcap_second: 0,
+            hfscr: 0,
+            fscr: 0,
+        };
+    }
+    let x = values_of(r, level, g, e.set);
+    FeatureWords {
+        refusal: Refusal::None,
+        hwcap_first: x.first,
+        hwcap_second: x.second,
+        hfscr: x.hfscr,
+        fscr: x.fscr,
+    }
+}
