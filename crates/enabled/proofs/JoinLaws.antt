@@ -7,7 +7,7 @@ use native.Mathlib.Decide.{decLt}
 use native.Mathlib.Omega.{arith}
 use borrow.Author.Tests.{lt-ltb, le-ltb}
 use lib.Dec.{ltb}
-use Rattle.positions.specs.Sets.{room, has, setOf, withMember, either}
+use Rattle.positions.specs.Sets.{has, setOf, withMember, either}
 use Rattle.positions.proofs.SetLaws.{or-false}
 use Rattle.positions.proofs.MemberLaws.{has-set-of, set-of-same}
 use Rattle.record.specs.Record.{mostFeatures}
@@ -62,10 +62,13 @@ module _ (n k : ℕ) (few : n ≤ mostFeatures) (kn : k < n) (R : ℕ → ℕ �
   unfolding joinedBelow
   join-more m table row other h e o q =
       ap (λ (t : List ℕ). withRow t m row) e
-      ∙ put-table n n m (joinedBelow m k R) (joinedBelow (m + 1) k R) row (omega arith) few h new (λ j l ne. (l, λ t _. ap (λ (b : Bool). cond b (through k R j t) (R j t)) (same j ne (decLt j m))))
+      ∙ put-table n n m (joinedBelow m k R) (joinedBelow (m + 1) k R) row (omega arith) few h new
+      (λ j l ne. (l, λ t _. ap (λ (b : Bool). cond b (through k R j t) (R j t)) (same j ne (decLt j m))))
     where
       was : rowAt table m ≡ setOf (R m)
-      was = ap (λ (t : List ℕ). rowAt t m) e ∙ row-table (joinedBelow m k R) n m h ∙ set-of-same (joinedBelow m k R m) (R m) (λ t _. rw (le-ltb m m (omega arith)))
+      was =
+          ap (λ (t : List ℕ). rowAt t m) e
+          ∙ row-table (joinedBelow m k R) n m h ∙ set-of-same (joinedBelow m k R m) (R m) (λ t _. rw (le-ltb m m (omega arith)))
 
       new : row ≡ setOf (joinedBelow (m + 1) k R m)
       new =

@@ -1,6 +1,6 @@
 -- Laws of the table of a record's dependencies: its rows as the code builds them, and the graph that it shows. Assumes nothing.
-use Prim.Native.Nat.{ℕ, _+_, _*_, _≤_, _<_, min}
-use mathlib.Core.Path.{_≡_, refl, sym, ap, ap₂, _∙_}
+use Prim.Native.Nat.{ℕ, _+_, _*_, min}
+use mathlib.Core.Path.{_≡_, refl, ap, _∙_}
 use mathlib.Core.Bool.{Bool, true, _||_}
 use mathlib.Core.List.{List}
 use native.Mathlib.Numerals.{add-one}
@@ -8,14 +8,14 @@ use native.Mathlib.Omega.{arith}
 use lib.Dec.{eqb}
 use lib.ListN.{getD}
 use Rattle.positions.specs.Below.{some}
-use Rattle.positions.specs.Sets.{room, has, setOf, noMembers, withMember}
+use Rattle.positions.specs.Sets.{setOf, noMembers, withMember}
 use Rattle.positions.proofs.MemberLaws.{has-set-of, set-of-same}
 use Rattle.record.specs.declared.Record.{Record}
 use Rattle.record.specs.Record.{mostFeatures, mostDependencies}
 use Rattle.record.specs.WellFormed.{wellFormed}
 use Rattle.record.proofs.Formed.{formed}
-use Rattle.enabled.specs.Tables.{inRow, tableOf, dependenciesIn, dependencyIn, dependencyTable}
-use Rattle.enabled.specs.Parts.{withRow, slotSet, Shows}
+use Rattle.enabled.specs.Tables.{tableOf, dependenciesIn, dependencyIn, dependencyTable}
+use Rattle.enabled.specs.Parts.{slotSet, Shows}
 use Rattle.enabled.proofs.TableLaws.{in-table}
 
 -- the set of the slots read
@@ -27,7 +27,8 @@ some-more : (n : ℕ) (p : ℕ → Bool) → some n p || p n ≡ some (n + 1) p
 unfolding some
 some-more n p = rw (add-one n)
 
-pub slots-more : (slots : List ℕ) (i j : ℕ) {s : List ℕ} → s ≡ slotSet slots i j → withMember s (getD slots (mostDependencies * i + j) 0) ≡ slotSet slots i (j + 1)
+pub slots-more : (slots : List ℕ) (i j : ℕ) {s : List ℕ} → s ≡ slotSet slots i j
+    → withMember s (getD slots (mostDependencies * i + j) 0) ≡ slotSet slots i (j + 1)
 unfolding slotSet withMember
 slots-more slots i j e =
     let slot : ℕ → ℕ → Bool = λ t j. eqb (getD slots (mostDependencies * i + j) 0) t in
@@ -48,7 +49,7 @@ module _ (r : Record) where
 
   -- the table of a well-formed record shows its graph
   pub shows-record : wellFormed r ≡ true → Shows (dependenciesIn r) (dependencyIn r) (r .count) (dependencyTable r)
-  unfolding dependencyTable
+  unfolding dependencyTable inSlots
   shows-record e =
       let f = formed r e in
       record {
@@ -57,6 +58,6 @@ module _ (r : Record) where
             let few = f .few in
             let short = f .each i h .few in
             let m : min (dependenciesIn r i) mostDependencies ≡ dependenciesIn r i = omega arith in
-            in-table (λ (i t : ℕ). some (min (dependenciesIn r i) mostDependencies) (λ (j : ℕ). eqb (dependencyIn r i j) t)) (min (r .count) mostFeatures) i t (omega arith) l
+            in-table inSlots (min (r .count) mostFeatures) i t (omega arith) l
             ∙ ap (λ (k : ℕ). some k (λ (j : ℕ). eqb (dependencyIn r i j) t)) m;
       }

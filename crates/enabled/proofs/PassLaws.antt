@@ -37,7 +37,8 @@ module _ (table : List ℕ) (n : ℕ) where
     takes-one =
         record {
           fewer = subset-of (withoutMember s i) s (λ j h e. and-left (has s j) (not (eqb i j)) (sym (without-member s i j h) ∙ e));
-          keeps = λ e k h. subset-of e (withoutMember s i) (λ j l m. without-member s i j l ∙ ap₂ _&&_ (subset-at e s h j l m) (ap not (ne-eqb i j (λ q. stays e k h j m q))));
+          keeps = λ e k h. subset-of e (withoutMember s i) (λ j l m.
+              without-member s i j l ∙ ap₂ _&&_ (subset-at e s h j l m) (ap not (ne-eqb i j (λ q. stays e k h j m q))));
         }
       where
         stays : (e : List ℕ) → ClosedRows table n e → isSubset e s ≡ true → (j : ℕ) → has e j ≡ true → i ≡ j → ⊥

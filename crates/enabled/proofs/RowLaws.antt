@@ -1,7 +1,6 @@
 -- Laws of the rows of a table: their words, and a row replaced. Assumes nothing.
-use Prim.Native.Nat.{ℕ, zero, suc, _+_, _*_, _/_, _%_, _^_, _≤_, _<_}
+use Prim.Native.Nat.{ℕ, zero, suc, _+_, _*_, _^_, _≤_, _<_}
 use mathlib.Core.Path.{_≡_, refl, sym, ap, _∙_}
-use mathlib.Core.Bool.{false}
 use mathlib.Core.List.{List, [], _∷_, _++_}
 use native.Mathlib.Decide.{decLt}
 use native.Mathlib.Nat.{add-zero}
@@ -13,13 +12,10 @@ use lib.ListN.{length, getD, set, take, length-set, List·getD-append, List·get
 use lib.Seq.{sets, length-sets, getD-append-seam, getD-set-same, getD-set-other, ext-getD, length-take-le, take-suc, take-all}
 use Rattle.cells.specs.Rows.{each}
 use Rattle.cells.proofs.Rows.{length-each}
-use Rattle.positions.specs.Bits.{bit}
-use Rattle.positions.specs.Sets.{setWords, room, has, setOf, noMembers}
-use Rattle.positions.proofs.BitLaws.{bit-none}
+use Rattle.positions.specs.Sets.{setWords, setOf, noMembers}
 use Rattle.positions.proofs.SetLaws.{WordList}
-use Rattle.positions.proofs.MemberLaws.{set-of-is}
 use Rattle.record.specs.Record.{mostFeatures}
-use Rattle.enabled.specs.Tables.{rowAt, rowOrNone, inRow, tableWords}
+use Rattle.enabled.specs.Tables.{rowAt, rowOrNone}
 use Rattle.enabled.specs.Parts.{withRow}
 
 each-at : (n : ℕ) (f : ℕ → ℕ) (j : ℕ) → j < n → getD (each n f) j 0 ≡ f j
@@ -43,14 +39,8 @@ pub row-word : (table : List ℕ) (i v : ℕ) → v < setWords → getD (rowAt t
 unfolding rowAt
 row-word table i v h = each-at setWords (λ (w : ℕ). getD table (setWords * i + w) 0) v h
 
-pub row-words : {W : ℕ} (table : List ℕ) (i : ℕ) → WordList W table → WordList setWords (rowAt table i)
-row-words table i g = record { size = length-row table i; small = λ v. go v (decLt v setWords) }
-  where
-    go : (v : ℕ) → Dec (v < setWords) → getD (rowAt table i) v 0 < 2 ^ 64
-    go v (yes h) = rw (row-word table i v h) (g .small (setWords * i + v))
-    go v (no h) = rw (List·getD-eq-default (rowAt table i) 0 {n = v} (omega (arith, length-row table i))) (omega arith)
-
-pub row-is : (table ws : List ℕ) (i : ℕ) → length ws ≡ setWords → ((v : ℕ) → v < setWords → getD ws v 0 ≡ getD table (setWords * i + v) 0) → ws ≡ rowAt table i
+pub row-is : (table ws : List ℕ) (i : ℕ) → length ws ≡ setWords → ((v : ℕ) → v < setWords → getD ws v 0 ≡ getD table (setWords * i + v) 0)
+    → ws ≡ rowAt table i
 row-is table ws i e f = ext-getD 0 ws (rowAt table i) (e ∙ sym (length-row table i)) (λ v h. f v (omega arith) ∙ sym (row-word table i v (omega arith)))
 
 -- the first w words of a row are read
@@ -62,7 +52,8 @@ pub record ReadTo (table : List ℕ) (i : ℕ) (t : List ℕ) (w : ℕ) : Type 0
 pub read-none : (table : List ℕ) (i : ℕ) (t : List ℕ) → length t ≡ setWords → ReadTo table i t 0
 read-none table i t e = record { within = omega arith; size = e; each = λ v h. absurd (omega arith) }
 
-pub read-more : (table : List ℕ) (i : ℕ) (t : List ℕ) (w : ℕ) → ReadTo table i t w → w < setWords → ReadTo table i (set t w (getD table (setWords * i + w) 0)) (w + 1)
+pub read-more : (table : List ℕ) (i : ℕ) (t : List ℕ) (w : ℕ) → ReadTo table i t w → w < setWords
+    → ReadTo table i (set t w (getD table (setWords * i + w) 0)) (w + 1)
 read-more table i t w r h =
     let x = getD table (setWords * i + w) 0 in
     record {
@@ -126,7 +117,8 @@ put-more old i words new w e r h =
           ∙ ap (sets old (setWords * i)) (sym (take-suc words w 0 (omega arith)) ∙ ap (λ (k : ℕ). take k words) (sym (add-one w)));
     }
 
-pub put-all : (old : List ℕ) (i : ℕ) (words new : List ℕ) (w : ℕ) → length words ≡ setWords → PutTo old i words new w → setWords ≤ w → new ≡ withRow old i words
+pub put-all : (old : List ℕ) (i : ℕ) (words new : List ℕ) (w : ℕ) → length words ≡ setWords → PutTo old i words new w → setWords ≤ w
+    → new ≡ withRow old i words
 unfolding withRow
 put-all old i words new w e r h = r .same ∙ ap (sets old (setWords * i)) (take-all w words (omega arith))
 
@@ -135,11 +127,14 @@ pub length-with-row : (table : List ℕ) (i : ℕ) (words : List ℕ) → length
 unfolding withRow
 length-with-row table i words = length-sets table (setWords * i) words
 
-pub row-put : (table : List ℕ) (i : ℕ) (words : List ℕ) → length words ≡ setWords → setWords * i + setWords ≤ length table → rowAt (withRow table i words) i ≡ words
+pub row-put : (table : List ℕ) (i : ℕ) (words : List ℕ) → length words ≡ setWords → setWords * i + setWords ≤ length table
+    → rowAt (withRow table i words) i ≡ words
 unfolding withRow
-row-put table i words e h = sym (row-is (sets table (setWords * i) words) words i e (λ v l. sym (sets-in table words (setWords * i) v (omega arith) (omega arith))))
+row-put table i words e h =
+    sym (row-is (sets table (setWords * i) words) words i e (λ v l. sym (sets-in table words (setWords * i) v (omega arith) (omega arith))))
 
-pub row-other : (table : List ℕ) (i : ℕ) (words : List ℕ) (j : ℕ) → length words ≡ setWords → (j ≡ i → ⊥) → rowAt (withRow table i words) j ≡ rowAt table j
+pub row-other : (table : List ℕ) (i : ℕ) (words : List ℕ) (j : ℕ) → length words ≡ setWords → (j ≡ i → ⊥)
+    → rowAt (withRow table i words) j ≡ rowAt table j
 unfolding withRow
 row-other table i words j e ne =
     row-is table (rowAt (sets table (setWords * i) words) j) j (length-row (sets table (setWords * i) words) j)

@@ -66,7 +66,7 @@ module _ (num : ℕ → ℕ) (dep : ℕ → ℕ → ℕ) (permitted : ℕ → Bo
       go (no h) = omega arith
 
   -- a position that sweep k + 1 is the first to take out has a dependency that k sweeps leave out
-  next-is : (k i : ℕ) → ((j : ℕ) → j < num i → dep i j < top) → left k i ≡ true → left (suc k) i ≡ false
+  pub next-is : (k i : ℕ) → ((j : ℕ) → j < num i → dep i j < top) → left k i ≡ true → left (suc k) i ≡ false
       → (j : ℕ) × (j < num i) × (dep i j ≡ after k i) × (left k (dep i j) ≡ false)
   unfolding afterSweeps
   next-is k i low e f =

@@ -21,7 +21,8 @@ use Rattle.enabled.proofs.PassLaws.{takes-on}
 
 module _ (table : List ℕ) (n : ℕ) where
   -- s is a part of the first n permitted positions that keeps every closed part, and is closed
-  module _ (few : n ≤ mostFeatures) (p s : List ℕ) (g : WordList setWords s) (t : TakesOut table n (common p (firstPositions n)) s) (c : ClosedRows table n s) where
+  module _ (few : n ≤ mostFeatures) (p s : List ℕ) (g : WordList setWords s) (t : TakesOut table n (common p (firstPositions n)) s)
+      (c : ClosedRows table n s) where
     member : (i : ℕ) → i < room → has s i ≡ true → (has p i ≡ true) × (i < n)
     member i h e =
         let both = sym (common-member p (firstPositions n) i h) ∙ subset-at s (common p (firstPositions n)) (t .fewer) i h e in
@@ -78,13 +79,17 @@ module _ (table : List ℕ) (n : ℕ) where
 
   -- a pass up and one down
   module _ (s mid t : List ℕ) (up : Passes table n n s mid) (down : TakesOut table n mid t) where
+    fewer : isSubset t s ≡ true
+    fewer = subset-on t mid s (down .fewer) (up .out .fewer)
+
     pub round-next : (start : List ℕ) → TakesOut table n start s → TakesOut table n start t
     round-next start o = takes-on table n start s t o (takes-on table n s mid t (up .out) down)
 
     pub round-less : isSubset s t ≡ false → memberCount t < memberCount s
-    round-less e = fewer-members t s (subset-on t mid s (down .fewer) (up .out .fewer)) e
+    round-less e = fewer-members t s fewer e
 
     pub round-last : (p b start : List ℕ) → n ≤ mostFeatures → start ≡ common p b → b ≡ firstPositions n → TakesOut table n start s → isSubset s t ≡ true
-        → WordList setWords s → Enables table n p s
+        → WordList setWords t → Enables table n p t
     round-last p b start few e q o last g =
-        swept few p s g (subst (λ (x : List ℕ). TakesOut table n x s) (e ∙ ap (common p) q) o) (up .done (subset-on s t mid last (down .fewer)))
+        swept few p t g (subst (λ (x : List ℕ). TakesOut table n x t) (e ∙ ap (common p) q) (round-next start o))
+        (λ i h m. subset-on (rowAt table i) s t (up .done (subset-on s t mid last (down .fewer)) i h (subset-at t s fewer i (omega arith) m)) last)

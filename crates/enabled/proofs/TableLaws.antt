@@ -1,8 +1,8 @@
 -- Laws of a table of rows that a test gives: its words, its rows, and a row replaced. Assumes nothing.
 use Prim.Native.Nat.{ℕ, zero, suc, _+_, _-_, _*_, _/_, _%_, _^_, _≤_, _<_}
 use mathlib.Core.Path.{_≡_, refl, sym, ap, subst, _∙_}
-use mathlib.Core.Bool.{Bool, false}
-use mathlib.Core.List.{List, [], _++_}
+use mathlib.Core.Bool.{Bool}
+use mathlib.Core.List.{List, _++_}
 use native.Mathlib.Decide.{decLt, ℕ-discrete}
 use native.Mathlib.Omega.{arith}
 use lib.ListN.{length, getD, replicate, length-append, length-replicate, List·getD-append}
@@ -52,9 +52,9 @@ module _ (row : ℕ → ℕ → Bool) where
   pub table-words : (n : ℕ) → n ≤ mostFeatures → WordList tableWords (tableOf n row)
   unfolding tableOf
   table-words n h =
-      let e : length (rowsBelow n row) + (tableWords - length (rowsBelow n row)) ≡ tableWords = omega (arith, rows-words n .size) in
-      let g : WordList (length (rowsBelow n row)) (rowsBelow n row) = subst (λ (k : ℕ). WordList k (rowsBelow n row)) (sym (rows-words n .size)) (rows-words n) in
-      subst (λ (k : ℕ). WordList k (tableOf n row)) e (words-append (rowsBelow n row) (replicate (tableWords - length (rowsBelow n row)) 0) g (zero-list (tableWords - length (rowsBelow n row))))
+      let rest = tableWords - length (rowsBelow n row) in
+      let e : setWords * n + rest ≡ tableWords = omega (arith, rows-words n .size) in
+      subst (λ (k : ℕ). WordList k (tableOf n row)) e (words-append (rowsBelow n row) (replicate rest 0) (rows-words n) (zero-list rest))
 
   -- a row below n, and one from n on
   pub row-table : (n i : ℕ) → i < n → rowAt (tableOf n row) i ≡ setOf (row i)
@@ -66,13 +66,15 @@ module _ (row : ℕ → ℕ → Bool) where
 
   pub row-table-past : (n i : ℕ) → n ≤ i → rowAt (tableOf n row) i ≡ setOf noMembers
   unfolding tableOf
-  row-table-past n i h = sym (row-is (tableOf n row) (replicate setWords 0) i (length-replicate {A = ℕ} setWords 0) (λ v l. zeros setWords v ∙ sym (none v))) ∙ zero-words
+  row-table-past n i h =
+      sym (row-is (tableOf n row) (replicate setWords 0) i (length-replicate {A = ℕ} setWords 0) (λ v l. zeros setWords v ∙ sym (none v))) ∙ zero-words
     where
       none : (v : ℕ) → getD (tableOf n row) (setWords * i + v) 0 ≡ 0
       none v =
           let k = tableWords - length (rowsBelow n row) in
-          let e : setWords * i + v ≡ length (rowsBelow n row) + (setWords * i + v - length (rowsBelow n row)) = omega (arith, rows-words n .size) in
-          rw e (getD-append-add (rowsBelow n row) (replicate k 0) (setWords * i + v - length (rowsBelow n row)) 0 ∙ zeros k (setWords * i + v - length (rowsBelow n row)))
+          let x = setWords * i + v - length (rowsBelow n row) in
+          let e : setWords * i + v ≡ length (rowsBelow n row) + x = omega (arith, rows-words n .size) in
+          rw e (getD-append-add (rowsBelow n row) (replicate k 0) x 0 ∙ zeros k x)
 
   pub in-table : (n i t : ℕ) → i < n → t < room → inRow (tableOf n row) i t ≡ row i t
   in-table n i t h l = ap (λ (ws : List ℕ). has ws t) (row-table n i h) ∙ has-set-of (row i) t l
@@ -103,7 +105,8 @@ table-is a n row e h f g = table-ext a (tableOf n row) e (table-words row n h .s
 
 pub table-same : (n : ℕ) (f g : ℕ → ℕ → Bool) → n ≤ mostFeatures → ((i t : ℕ) → i < n → t < room → f i t ≡ g i t) → tableOf n f ≡ tableOf n g
 table-same n f g h e =
-    table-is (tableOf n f) n g (table-words f n h .size) h (λ i l. row-table f n i l ∙ set-of-same (f i) (g i) (λ t q. e i t l q)) (λ i l q. row-table-past f n i l)
+    table-is (tableOf n f) n g (table-words f n h .size) h (λ i l. row-table f n i l ∙ set-of-same (f i) (g i) (λ t q. e i t l q))
+    (λ i l q. row-table-past f n i l)
 
 -- row i replaced: of n rows that f gives, m rows that g gives
 module _ (n m i : ℕ) (f g : ℕ → ℕ → Bool) (ws : List ℕ) (grows : n ≤ m) (few : m ≤ mostFeatures) (low : i < m) (new : ws ≡ setOf (g i))
@@ -125,7 +128,8 @@ module _ (n m i : ℕ) (f g : ℕ → ℕ → Bool) (ws : List ℕ) (grows : n �
       past j h l = row-other (tableOf n f) i ws j long (λ q. omega arith) ∙ row-table-past f n j (omega arith)
 
 -- one row more
-pub table-more : (f : ℕ → ℕ → Bool) (i : ℕ) (table ws : List ℕ) → table ≡ tableOf i f → ws ≡ setOf (f i) → i < mostFeatures → withRow table i ws ≡ tableOf (i + 1) f
+pub table-more : (f : ℕ → ℕ → Bool) (i : ℕ) (table ws : List ℕ) → table ≡ tableOf i f → ws ≡ setOf (f i) → i < mostFeatures
+    → withRow table i ws ≡ tableOf (i + 1) f
 table-more f i table ws e q h =
     ap (λ (t : List ℕ). withRow t i ws) e
     ∙ put-table i (i + 1) i f f ws (omega arith) (omega arith) (omega arith) q (λ j l ne. (omega arith, λ t k. refl))

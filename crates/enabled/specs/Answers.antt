@@ -1,10 +1,9 @@
 -- The enabled set of a record, its reach table, and the enabled set by a table (document 01, "Permitted and enabled").
 use Prim.Native.Nat.{ℕ}
-use mathlib.Core.Bool.{Bool}
 use mathlib.Core.List.{List, [], _∷_}
 use lib.ListN.{replicate}
 use Rattle.refusal.specs.Refusal.{Outcome, answer, refuse, numberOf}
-use Rattle.refusal.specs.Checks.{Check, check, firstFault}
+use Rattle.refusal.specs.Checks.{check, firstFault}
 use Rattle.positions.specs.Sets.{setWords, room, has, collect, setOf, noMembers, memberCount}
 use Rattle.record.specs.declared.Record.{Record}
 use Rattle.record.specs.WellFormed.{wellFormed}

@@ -30,7 +30,7 @@ module _ (r : Record) (level : ℕ) where
   unfolding askedChecks faultOf
   all-good e h = sym (passes (λ (n : ℕ). n) (askedChecks r level) 0 (rw e tt, (le→leb level hypervisor h, tt)))
 
-  numbered : Numbered (askedChecks r level)
+  pub numbered : Numbered (askedChecks r level)
   unfolding askedChecks
   numbered = (omega arith, (omega arith, tt))
 

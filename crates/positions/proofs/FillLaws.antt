@@ -58,10 +58,6 @@ either-all a b t w r h =
     set-of-is t (λ j. has a j || has b j) (r .word-list)
     (λ j l. filled-has (eitherWord a b) t w r h j l ∙ bit-or (getD a (j / 64) 0) (getD b (j / 64) 0) (j % 64))
 
-pub either-member : (a b : List ℕ) (j : ℕ) → j < room → has (either a b) j ≡ has a j || has b j
-unfolding either
-either-member a b j h = has-set-of (λ j. has a j || has b j) j h
-
 -- the bits of 2 ^ k - 1 are those below k
 bit-ones : (k i : ℕ) → bit (2 ^ k - 1) i ≡ ltb i k
 bit-ones zero i = bit-none i ∙ sym (le-ltb i 0 (omega arith))
@@ -87,10 +83,6 @@ module _ (n w : ℕ) where
   pub word-part : n - 64 * w < 64 → 1 * 2 ^ (n - 64 * w) % 2 ^ 64 - 1 ≡ wordBelow n w
   unfolding wordBelow
   word-part h = let e : min (n - 64 * w) 64 ≡ n - 64 * w = omega arith in rw (shift-one (n - 64 * w) h, e)
-
-  pub word-small : wordBelow n w < 2 ^ 64
-  unfolding wordBelow
-  word-small = omega (arith, pow-mono {i = min (n - 64 * w) 64} {j = 64} (omega arith), pow-pos (min (n - 64 * w) 64))
 
 pub shift-positive : (s : ℕ) → s < 64 → 1 ≤ 1 * 2 ^ s % 2 ^ 64
 shift-positive s h = rw (shift-one s h) (pow-pos s)

@@ -4,3 +4,5 @@ pub mod SetLaws
 pub mod MemberLaws
 pub mod SetCodeLaws
 pub mod FillLaws
+pub mod FirstLaws
+pub mod LowestLaws

@@ -1,6 +1,6 @@
 -- Tests of the positions below a bound.
 use Prim.Native.Nat.{ℕ, zero, suc, _+_}
-use mathlib.Core.Bool.{Bool, true, false, _&&_, _||_}
+use mathlib.Core.Bool.{Bool, true, false, _&&_, _||_, cond}
 
 -- every position below n passes a test
 unfoldable pub every : ℕ → (ℕ → Bool) → Bool
@@ -20,3 +20,8 @@ oneIf false = 0
 unfoldable pub count : ℕ → (ℕ → Bool) → ℕ
 count zero p = 0
 count (suc n) p = count n p + oneIf (p n)
+
+-- the first position below n that passes a test; n where none does
+unfoldable pub firstThat : ℕ → (ℕ → Bool) → ℕ
+firstThat zero p = zero
+firstThat (suc n) p = cond (p zero) zero (suc (firstThat n (λ i. p (suc i))))

@@ -68,3 +68,7 @@ isSubset a b = every room (λ j. not (has a j) || has b j)
 -- how many members there are
 unfoldable pub memberCount : List ℕ → ℕ
 memberCount words = count room (has words)
+
+-- position j is a member of a and not of b
+unfoldable pub memberOutside : List ℕ → List ℕ → ℕ → Bool
+memberOutside a b j = has a j && not (has b j)

@@ -1,6 +1,7 @@
 // Positions below a bound, the bits of words, and sets of positions.
 ghost use mathlib.Core.Path.{_≡_};
 ghost use Rattle.positions.specs.Bits.{bit};
+ghost use Rattle.positions.specs.Below.{firstThat};
 ghost use Prim.Native.Nat.{_<_};
 ghost use Rattle.positions.specs.Sets.{
   setWords,
@@ -15,6 +16,8 @@ ghost use Rattle.positions.specs.Sets.{
   firstPositions,
   isSubset,
   memberCount,
+  room,
+  memberOutside,
 };
 
 const WORD_BITS: u32 = 64;
@@ -160,4 +163,19 @@ pub fn members(s: Set) -> u32
         w += 1;
     }
     n
+}
+
+// The smallest position that is a member of the first set and not of the second; 64 for each word where there is none: one step a word.
+pub fn lowest_outside(a: Set, b: Set) -> usize
+    ensures { λ r. ⌜ r ≡ firstThat room (memberOutside (a .words) (b .words)) ⌝ }
+{
+    let mut w: usize = 0;
+    while w < WORDS {
+        let outside = a.words[w] & !b.words[w];
+        if outside != 0 {
+            return 64 * w + u64::trailing_zeros(outside) as usize;
+        }
+        w += 1;
+    }
+    64 * WORDS
 }

@@ -1,6 +1,5 @@
 -- The answer for the words, by that for the enabled set. Assumes nothing.
 use mathlib.Core.Path.{_≡_, sym, ap, _∙_}
-use mathlib.Core.List.{List}
 use Prim.Native.Nat.{ℕ, _≤_}
 use Rattle.refusal.specs.Refusal.{Outcome, answer, refuse, numberOf}
 use Rattle.refusal.specs.Checks.{faultOf}

@@ -1,12 +1,12 @@
 -- Words by the bits that pass a test. Assumes nothing.
-use Prim.Native.Nat.{ℕ, zero, suc, _+_, _*_, _%_, _^_, _≤_, _<_}
+use Prim.Native.Nat.{ℕ, _+_, _*_, _%_, _^_, _≤_, _<_}
 use mathlib.Core.Path.{_≡_, refl, sym, ap, _∙_}
 use mathlib.Core.Bool.{Bool, true, false, _&&_, _||_, cond}
 use native.Mathlib.Omega.{arith}
 use borrow.Author.Tests.{lt-ltb, le-ltb, ne-eqb}
 use lib.Bits.{bitAnd, bitOr, or-lt, and-le-l}
 use native.Mathlib.Nat.{lt-of-le-of-lt}
-use lib.Dec.{eqb, ltb}
+use lib.Dec.{ltb}
 use lib.Pow.{pow-lt, shl-exact}
 use Rattle.positions.specs.Bits.{bit}
 use Rattle.positions.specs.Sets.{wordBits, has, collect}

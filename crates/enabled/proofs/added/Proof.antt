@@ -9,19 +9,15 @@ use Rattle.enabled.proofs.added.Lts as lts
 use Rattle.positions.proofs.insert.Reads as insert-reads
 use Rattle.positions.proofs.subset.Reads as subset-reads
 
--- src/lib.rt:206:8
 subset-requires : tie.Need-subset-requires
 subset-requires c κs = search needs
 
--- src/lib.rt:207:9
 insert-requires : tie.Need-insert-requires
 insert-requires c κs = search needs
 
--- src/lib.rt:207:9
 returns : tie.Need-returns
 returns c = c .insert .ensures ∙ added-in _ _ _ _ (sym (c .before .before .subset .ensures) ∙ c .before .if1 .taken)
 
--- src/lib.rt:203:1
 returns-2 : tie.Need-returns-2
 returns-2 c = added-out _ _ _ _ (sym (c .before .subset .ensures) ∙ c .if1 .left)
 

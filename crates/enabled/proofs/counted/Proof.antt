@@ -2,16 +2,13 @@
 use mathlib.Core.Path.{ap}
 use Prim.Native.Nat.{ℕ}
 use Rattle.refusal.specs.Refusal.{answer}
-use Rattle.enabled.specs.Answers.{Members}
 use borrow.Author.Needs.{needs}
 use Rattle.enabled.proofs.counted.Statement.{statement}
 use Rattle.enabled.proofs.counted.Tie as tie
 
--- src/lib.rt:279:16
 members-requires : tie.Need-members-requires
 members-requires c κs = search needs
 
--- src/lib.rt:273:1
 returns : tie.Need-returns
 returns c = ap (λ (n : ℕ). answer (record { set = c .before .args .set .words; count = n })) (c .members .ensures)
 

@@ -1,5 +1,5 @@
 -- `enabled::down` meets its contract. The loop: members of rows passed are taken out. Assumes nothing.
-use Prim.Native.Nat.{_-_, _≤_}
+use Prim.Native.Nat.{_≤_}
 use borrow.Author.Needs.{needs}
 use native.Mathlib.Omega.{arith}
 use Rattle.enabled.specs.Parts.{TakesOut}
@@ -17,31 +17,25 @@ Inv-loop table n t₀ i₀ t i = (i ≤ n) × TakesOut table n (t₀ .words) (t 
 abbrev μ-loop : tie.MeasureT-loop
 μ-loop table n t₀ i₀ t i = i
 
--- src/lib.rt:127:5
 loop-holds : tie.Need-loop-holds Inv-loop μ-loop
 loop-holds c = (omega arith, takes-none _ _ _)
 
--- src/lib.rt:128:9
 sub-i : tie.Need-sub-i Inv-loop μ-loop
 sub-i c = omega arith
 
--- src/lib.rt:129:21
 row-requires : tie.Need-row-requires Inv-loop μ-loop
 row-requires c κs = search needs
 
--- src/lib.rt:129:9
 kept-requires : tie.Need-kept-requires Inv-loop μ-loop
 kept-requires c κs = search needs
 
--- src/lib.rt:127:5
 loop-less : tie.Need-loop-less Inv-loop μ-loop
 loop-less c = omega arith
 
--- src/lib.rt:127:5
 loop-again : tie.Need-loop-again Inv-loop μ-loop
-loop-again c = (omega arith, takes-next _ _ (omega arith) _ (omega arith) _ _ _ _ (c .before .row .ensures) (c .kept .ensures) (c .before .before .before .loop .inv .1))
+loop-again c =
+    (omega arith, takes-next _ _ (omega arith) _ (omega arith) _ _ _ _ (c .before .row .ensures) (c .kept .ensures) (c .before .before .before .loop .inv .1))
 
--- src/lib.rt:122:1
 returns : tie.Need-returns Inv-loop μ-loop
 returns c = c .before .loop .inv .1
 

@@ -6,35 +6,27 @@ use borrow.Author.Needs.{needs}
 use Rattle.enabled.proofs.enable.Statement.{statement}
 use Rattle.enabled.proofs.enable.Tie as tie
 
--- src/lib.rt:296:9
 asked-requires : tie.Need-asked-requires
 asked-requires c κs = search needs
 
--- src/lib.rt:297:8
 number-requires : tie.Need-number-requires
 number-requires c κs = search needs
 
--- src/lib.rt:298:9
 nobody-requires : tie.Need-nobody-requires
 nobody-requires c κs = search needs
 
--- src/lib.rt:298:9
 returns : tie.Need-returns
 returns c = sweep-refused _ _ _ (c .before .before .before .asked .ensures) (λ z. c .before .if1 .taken (c .before .before .number .ensures ∙ z)) (c .nobody .ensures)
 
--- src/lib.rt:300:28
 permitted-set-requires : tie.Need-permitted-set-requires
 permitted-set-requires c κs = search needs
 
--- src/lib.rt:300:13
 enabled-set-requires : tie.Need-enabled-set-requires
 enabled-set-requires c κs = asked-formed _ _ (c .before .before .before .asked .ensures) (sym (c .before .before .number .ensures) ∙ c .before .if1 .left)
 
--- src/lib.rt:300:5
 counted-requires : tie.Need-counted-requires
 counted-requires c κs = search needs
 
--- src/lib.rt:293:1
 returns-2 : tie.Need-returns-2
 returns-2 c = sweep-answered _ _ _ (c .before .before .before .before .before .asked .ensures) (sym (c .before .before .before .before .number .ensures) ∙ c .before .before .before .if1 .left) (c .before .before .permitted-set .ensures) (c .before .enabled-set .ensures) (c .counted .ensures)
 

@@ -6,39 +6,30 @@ use borrow.Author.Needs.{needs}
 use Rattle.enabled.proofs.enable_by_table.Statement.{statement}
 use Rattle.enabled.proofs.enable_by_table.Tie as tie
 
--- src/lib.rt:326:9
 asked-requires : tie.Need-asked-requires
 asked-requires c κs = search needs
 
--- src/lib.rt:327:8
 number-requires : tie.Need-number-requires
 number-requires c κs = search needs
 
--- src/lib.rt:328:9
 nobody-requires : tie.Need-nobody-requires
 nobody-requires c κs = search needs
 
--- src/lib.rt:328:9
 returns : tie.Need-returns
 returns c = table-refused _ _ _ (c .before .before .before .asked .ensures) _ (λ z. c .before .if1 .taken (c .before .before .number .ensures ∙ z)) (c .nobody .ensures)
 
--- src/lib.rt:330:9
 permitted-set-requires : tie.Need-permitted-set-requires
 permitted-set-requires c κs = search needs
 
--- src/lib.rt:331:39
 cast-inside-rows : tie.Need-cast-inside-rows
 cast-inside-rows c = search needs
 
--- src/lib.rt:331:13
 inside-rows-requires : tie.Need-inside-rows-requires
 inside-rows-requires c κs = few _ (asked-formed _ _ (c .before .before .before .before .before .before .asked .ensures) (sym (c .before .before .before .before .before .number .ensures) ∙ c .before .before .before .before .if1 .left))
 
--- src/lib.rt:331:5
 counted-requires : tie.Need-counted-requires
 counted-requires c κs = search needs
 
--- src/lib.rt:323:1
 returns-2 : tie.Need-returns-2
 returns-2 c = table-answered _ _ _ (c .before .before .before .before .before .before .before .before .asked .ensures) _ (sym (c .before .before .before .before .before .before .before .number .ensures) ∙ c .before .before .before .before .before .before .if1 .left) (c .before .before .before .before .before .permitted-set .ensures) (c .before .inside-rows .ensures) (c .counted .ensures)
 

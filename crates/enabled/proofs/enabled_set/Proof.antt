@@ -4,19 +4,15 @@ use borrow.Author.Needs.{needs}
 use Rattle.enabled.proofs.enabled_set.Statement.{statement}
 use Rattle.enabled.proofs.enabled_set.Tie as tie
 
--- src/lib.rt:288:17
 needs-requires : tie.Need-needs-requires
 needs-requires c κs = search needs
 
--- src/lib.rt:289:25
 cast-sweep : tie.Need-cast-sweep
 cast-sweep c = search needs
 
--- src/lib.rt:289:5
 sweep-requires : tie.Need-sweep-requires
 sweep-requires c κs = few _ (c .before .before .before .before .pre)
 
--- src/lib.rt:284:1
 returns : tie.Need-returns
 returns c = record-enabled _ (c .before .before .before .before .before .pre) _ (c .before .before .before .before .needs .ensures) (c .sweep .ensures)
 

@@ -1,6 +1,6 @@
 -- `enabled::inside_rows` meets its contract. The loop: the positions passed are in the set where their rows are inside. Assumes nothing.
 use Prim.Native.Nat.{_-_, _≤_}
-use mathlib.Core.Path.{_≡_, ap, _∙_}
+use mathlib.Core.Path.{_≡_, _∙_}
 use borrow.Author.Needs.{needs}
 use native.Mathlib.Omega.{arith}
 use Rattle.enabled.specs.Parts.{rowsInside}
@@ -20,35 +20,29 @@ Inv-loop table n p s₀ i₀ s i = (i ≤ n) × (s .words ≡ rowsInside table i
 abbrev μ-loop : tie.MeasureT-loop
 μ-loop table n p s₀ i₀ s i = n - i
 
--- src/lib.rt:217:9
 empty-requires : tie.Need-empty-requires Inv-loop μ-loop
 empty-requires c κs = search needs
 
--- src/lib.rt:219:5
 loop-holds : tie.Need-loop-holds Inv-loop μ-loop
 loop-holds c = (omega arith, c .empty .ensures ∙ inside-none _ _)
 
--- src/lib.rt:220:22
 row-requires : tie.Need-row-requires Inv-loop μ-loop
 row-requires c κs = search needs
 
--- src/lib.rt:220:9
 added-requires : tie.Need-added-requires Inv-loop μ-loop
 added-requires c κs = search needs
 
--- src/lib.rt:221:9
 add-i : tie.Need-add-i Inv-loop μ-loop
 add-i c = search needs
 
--- src/lib.rt:219:5
 loop-less : tie.Need-loop-less Inv-loop μ-loop
 loop-less c = omega arith
 
--- src/lib.rt:219:5
 loop-again : tie.Need-loop-again Inv-loop μ-loop
-loop-again c = (omega arith, c .added .ensures ∙ inside-more _ _ _ _ _ (omega arith) (c .before .before .before .loop .inv .1) (c .before .row .ensures ∙ row-low _ _ (omega arith)))
+loop-again c =
+    let read = c .before .row .ensures ∙ row-low _ _ (omega arith) in
+    (omega arith, c .added .ensures ∙ inside-more _ _ _ _ _ (omega arith) (c .before .before .before .loop .inv .1) read)
 
--- src/lib.rt:213:1
 returns : tie.Need-returns Inv-loop μ-loop
 returns c = inside-all _ _ _ _ _ (c .before .loop .inv .1) (omega arith)
 

@@ -9,19 +9,15 @@ use Rattle.enabled.proofs.joined.Lts as lts
 use Rattle.positions.proofs.member.Reads as member-reads
 use Rattle.positions.proofs.union.Reads as union-reads
 
--- src/lib.rt:167:8
 member-requires : tie.Need-member-requires
 member-requires c κs = search needs
 
--- src/lib.rt:168:9
 union-requires : tie.Need-union-requires
 union-requires c κs = search needs
 
--- src/lib.rt:168:9
 returns : tie.Need-returns
 returns c = c .union .ensures ∙ joined-in _ _ _ (sym (c .before .before .member .ensures) ∙ c .before .if1 .taken)
 
--- src/lib.rt:164:1
 returns-2 : tie.Need-returns-2
 returns-2 c = joined-out _ _ _ (sym (c .before .member .ensures) ∙ c .if1 .left)
 

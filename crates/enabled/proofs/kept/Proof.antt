@@ -1,6 +1,5 @@
 -- `enabled::kept` meets its contract. Assumes nothing.
 use mathlib.Core.Path.{sym, _∙_}
-use borrow.Author.Tests.{not-true, not-false}
 use Rattle.enabled.proofs.PassLaws.{kept-whole, kept-without}
 use borrow.Author.Needs.{needs}
 use Rattle.enabled.proofs.kept.Statement.{statement}
@@ -10,19 +9,15 @@ use Rattle.enabled.proofs.kept.Lts as lts
 use Rattle.positions.proofs.remove.Reads as remove-reads
 use Rattle.positions.proofs.subset.Reads as subset-reads
 
--- src/lib.rt:102:8
 subset-requires : tie.Need-subset-requires
 subset-requires c κs = search needs
 
--- src/lib.rt:103:9
 returns : tie.Need-returns
 returns c = kept-whole _ _ _ (sym (c .before .subset .ensures) ∙ c .if1 .taken)
 
--- src/lib.rt:105:5
 remove-requires : tie.Need-remove-requires
 remove-requires c κs = search needs
 
--- src/lib.rt:99:1
 returns-2 : tie.Need-returns-2
 returns-2 c = c .remove .ensures ∙ kept-without _ _ _ (sym (c .before .before .subset .ensures) ∙ c .before .if1 .left)
 

@@ -22,62 +22,49 @@ Inv-loop r n words₀ i₀ words i = (i ≤ n) × (words ≡ tableOf i (inSlots 
 abbrev μ-loop : tie.MeasureT-loop
 μ-loop r n words₀ i₀ words i = n - i
 
--- src/lib.rt:86:19
 cast-least : tie.Need-cast-least Inv-loop μ-loop
 cast-least c = search needs
 
--- src/lib.rt:86:9
 least-requires : tie.Need-least-requires Inv-loop μ-loop
 least-requires c κs = search needs
 
--- src/lib.rt:89:5
 loop-holds : tie.Need-loop-holds Inv-loop μ-loop
 loop-holds c = (omega arith, zero-table _)
 
--- src/lib.rt:90:17
 mul-f : tie.Need-mul-f Inv-loop μ-loop
 mul-f c = search needs
 
--- src/lib.rt:90:17
 element-copy-out-f : tie.Need-element-copy-out-f Inv-loop μ-loop
 element-copy-out-f c = search needs
 
--- src/lib.rt:91:23
 dependency-count-requires : tie.Need-dependency-count-requires Inv-loop μ-loop
 dependency-count-requires c κs = search needs
 
--- src/lib.rt:91:23
 cast-least-2 : tie.Need-cast-least-2 Inv-loop μ-loop
 cast-least-2 c = search needs
 
--- src/lib.rt:91:13
 least-requires-2 : tie.Need-least-requires-2 Inv-loop μ-loop
 least-requires-2 c κs = search needs
 
--- src/lib.rt:92:32
 dependencies-requires : tie.Need-dependencies-requires Inv-loop μ-loop
 dependencies-requires c κs = (omega arith, omega arith)
 
--- src/lib.rt:92:9
 put-row-requires : tie.Need-put-row-requires Inv-loop μ-loop
 put-row-requires c κs = search needs
 
--- src/lib.rt:93:9
 add-i : tie.Need-add-i Inv-loop μ-loop
 add-i c = search needs
 
--- src/lib.rt:89:5
 loop-less : tie.Need-loop-less Inv-loop μ-loop
 loop-less c = omega arith
 
--- src/lib.rt:89:5
 loop-again : tie.Need-loop-again Inv-loop μ-loop
 loop-again c =
     let l = c .before .before .before .before .before .before .before .before .before in
-    let m = c .before .before .before .before .before .least2 .ensures ∙ ap (λ (k : ℕ). min k mostDependencies) (c .before .before .before .before .before .before .dependency-count .ensures) in
+    let f = c .before .before .before .before .before in
+    let m = f .least2 .ensures ∙ ap (λ (k : ℕ). min k mostDependencies) (f .before .dependency-count .ensures) in
     (omega arith, c .put-row .ensures ∙ table-more _ _ _ _ (l .loop .inv .1) (c .before .dependencies .ensures ∙ slots-row _ _ m) (omega arith))
 
--- src/lib.rt:83:1
 returns : tie.Need-returns Inv-loop μ-loop
 returns c = needs-all _ _ _ (c .before .loop .inv .1) (omega arith)
 

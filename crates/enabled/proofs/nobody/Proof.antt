@@ -7,11 +7,9 @@ use borrow.Author.Needs.{needs}
 use Rattle.enabled.proofs.nobody.Statement.{statement}
 use Rattle.enabled.proofs.nobody.Tie as tie
 
--- src/lib.rt:267:14
 empty-requires : tie.Need-empty-requires
 empty-requires c κs = search needs
 
--- src/lib.rt:262:1
 returns : tie.Need-returns
 returns c = ap (λ (words : List ℕ). refuse (record { set = words; count = 0 }) (numberOf (c .before .args .refusal))) (c .empty .ensures)
 

@@ -1,9 +1,7 @@
 -- `enabled::put_row` meets its contract. The loop: the words passed are replaced. Assumes nothing.
 use Prim.Native.Nat.{_-_, _<_}
-use mathlib.Core.Path.{_≡_}
 use native.Mathlib.Omega.{arith}
 use borrow.Author.Needs.{needs}
-use lib.ListN.{length}
 use Rattle.positions.specs.Sets.{setWords}
 use Rattle.record.specs.Record.{mostFeatures}
 use Rattle.enabled.proofs.RowLaws.{PutTo, put-none, put-more, put-all}
@@ -18,47 +16,36 @@ Inv-loop table₀ i s w₀ table w = PutTo table₀ i (s .words) table w × (i <
 abbrev μ-loop : tie.MeasureT-loop
 μ-loop table₀ i s w₀ table w = setWords - w
 
--- src/lib.rt:62:5
 loop-holds : tie.Need-loop-holds Inv-loop μ-loop
 loop-holds c = (put-none _ _ _, search needs)
 
--- src/lib.rt:63:32
 mul-table : tie.Need-mul-table Inv-loop μ-loop
 mul-table c = omega arith
 
--- src/lib.rt:63:32
 element-copy-out-table : tie.Need-element-copy-out-table Inv-loop μ-loop
 element-copy-out-table c = omega arith
 
--- src/lib.rt:63:15
 mul-table-2 : tie.Need-mul-table-2 Inv-loop μ-loop
 mul-table-2 c = omega arith
 
--- src/lib.rt:63:15
 add-table : tie.Need-add-table Inv-loop μ-loop
 add-table c = omega arith
 
--- src/lib.rt:63:9
 mul-table-3 : tie.Need-mul-table-3 Inv-loop μ-loop
 mul-table-3 c = omega arith
 
--- src/lib.rt:63:9
 element-write-table : tie.Need-element-write-table Inv-loop μ-loop
 element-write-table c = omega arith
 
--- src/lib.rt:64:9
 add-w : tie.Need-add-w Inv-loop μ-loop
 add-w c = omega arith
 
--- src/lib.rt:62:5
 loop-less : tie.Need-loop-less Inv-loop μ-loop
 loop-less c = omega arith
 
--- src/lib.rt:62:5
 loop-again : tie.Need-loop-again Inv-loop μ-loop
 loop-again c = (put-more _ _ _ _ _ (search needs) (c .before .before .loop .inv .0) (omega arith), search needs)
 
--- src/lib.rt:57:1
 returns : tie.Need-returns Inv-loop μ-loop
 returns c = put-all _ _ _ _ _ (search needs) (c .before .loop .inv .0) (omega arith)
 

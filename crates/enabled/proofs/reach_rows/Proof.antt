@@ -1,6 +1,5 @@
 -- `enabled::reach_rows` meets its contract. The loop: the positions passed are let through. Assumes nothing.
-use Prim.Native.Nat.{_-_, _≤_}
-use mathlib.Core.Path.{_≡_, ap, subst, sym, _∙_}
+use Prim.Native.Nat.{_-_}
 use borrow.Author.Needs.{needs}
 use native.Mathlib.Omega.{arith}
 use Rattle.enabled.proofs.JoinLaws.{Closes, closes-none, closes-more, closes-all}
@@ -17,31 +16,24 @@ Inv-loop table n words₀ k₀ words k = Closes table n k words
 abbrev μ-loop : tie.MeasureT-loop
 μ-loop table n words₀ k₀ words k = n - k
 
--- src/lib.rt:200:9
 with-selves-requires : tie.Need-with-selves-requires Inv-loop μ-loop
 with-selves-requires c κs = search needs
 
--- src/lib.rt:203:5
 loop-holds : tie.Need-loop-holds Inv-loop μ-loop
 loop-holds c = closes-none _ _ (omega arith) _ (c .before .with-selves .ensures)
 
--- src/lib.rt:204:9
 join-requires : tie.Need-join-requires Inv-loop μ-loop
 join-requires c κs = search needs
 
--- src/lib.rt:205:9
 add-k : tie.Need-add-k Inv-loop μ-loop
 add-k c = search needs
 
--- src/lib.rt:203:5
 loop-less : tie.Need-loop-less Inv-loop μ-loop
 loop-less c = omega arith
 
--- src/lib.rt:203:5
 loop-again : tie.Need-loop-again Inv-loop μ-loop
 loop-again c = closes-more _ _ (omega arith) _ _ _ (omega arith) (c .before .before .before .loop .inv) (c .join .ensures)
 
--- src/lib.rt:196:1
 returns : tie.Need-returns Inv-loop μ-loop
 returns c = closes-all _ _ (omega arith) _ _ (omega arith) (c .before .loop .inv)
 

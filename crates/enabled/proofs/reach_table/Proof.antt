@@ -6,27 +6,21 @@ use borrow.Author.Needs.{needs}
 use Rattle.enabled.proofs.reach_table.Statement.{statement}
 use Rattle.enabled.proofs.reach_table.Tie as tie
 
--- src/lib.rt:307:9
 well-formed-requires : tie.Need-well-formed-requires
 well-formed-requires c κs = search needs
 
--- src/lib.rt:308:9
 returns : tie.Need-returns
 returns c = record-refused _ (sym (c .before .well-formed .ensures) ∙ not-true _ (c .if1 .taken))
 
--- src/lib.rt:315:17
 needs-requires : tie.Need-needs-requires
 needs-requires c κs = search needs
 
--- src/lib.rt:318:40
 cast-reach-rows : tie.Need-cast-reach-rows
 cast-reach-rows c = search needs
 
--- src/lib.rt:318:15
 reach-rows-requires : tie.Need-reach-rows-requires
 reach-rows-requires c κs = few _ (sym (c .before .before .before .before .before .well-formed .ensures) ∙ not-false _ (c .before .before .before .before .if1 .left))
 
--- src/lib.rt:304:1
 returns-2 : tie.Need-returns-2
 returns-2 c = record-reached _ (sym (c .before .before .before .before .before .before .well-formed .ensures) ∙ not-false _ (c .before .before .before .before .before .if1 .left)) (c .before .before .before .before .needs .ensures) (c .reach-rows .ensures)
 

@@ -1,13 +1,10 @@
 -- `enabled::row` meets its contract. The loop: the words passed are those of the row. Assumes nothing.
 use Prim.Native.Nat.{_-_, _<_}
-use mathlib.Core.Path.{_≡_, sym, _∙_}
+use mathlib.Core.Path.{sym, _∙_}
 use native.Mathlib.Omega.{arith}
 use borrow.Author.Needs.{needs}
-use mathlib.Core.List.{List, []}
-use Prim.Native.Nat.{ℕ}
 use Rattle.positions.specs.Sets.{setWords}
 use Rattle.record.specs.Record.{mostFeatures}
-use Rattle.enabled.specs.Tables.{tableWords}
 use Rattle.enabled.proofs.RowLaws.{ReadTo, read-none, read-more, read-all, row-past, row-low}
 use Rattle.enabled.proofs.row.Statement.{statement}
 use Rattle.enabled.proofs.row.Tie as tie
@@ -21,55 +18,42 @@ Inv-loop table i s₀ w₀ s w = ReadTo table i (s .words) w × (i < mostFeature
 abbrev μ-loop : tie.MeasureT-loop
 μ-loop table i s₀ w₀ s w = setWords - w
 
--- src/lib.rt:44:17
 empty-requires : tie.Need-empty-requires Inv-loop μ-loop
 empty-requires c κs = search needs
 
--- src/lib.rt:46:9
 returns : tie.Need-returns Inv-loop μ-loop
 returns c = c .before .empty .ensures ∙ row-past _ _ (c .if1 .taken)
 
--- src/lib.rt:49:5
 loop-holds : tie.Need-loop-holds Inv-loop μ-loop
 loop-holds c = (read-none _ _ _ (search needs), omega arith)
 
--- src/lib.rt:50:28
 mul-s : tie.Need-mul-s Inv-loop μ-loop
 mul-s c = omega arith
 
--- src/lib.rt:50:28
 add-s : tie.Need-add-s Inv-loop μ-loop
 add-s c = omega arith
 
--- src/lib.rt:50:22
 mul-s-2 : tie.Need-mul-s-2 Inv-loop μ-loop
 mul-s-2 c = omega arith
 
--- src/lib.rt:50:22
 element-copy-out-s : tie.Need-element-copy-out-s Inv-loop μ-loop
 element-copy-out-s c = omega arith
 
--- src/lib.rt:50:9
 mul-s-3 : tie.Need-mul-s-3 Inv-loop μ-loop
 mul-s-3 c = omega arith
 
--- src/lib.rt:50:9
 element-write-s : tie.Need-element-write-s Inv-loop μ-loop
 element-write-s c = omega arith
 
--- src/lib.rt:51:9
 add-w : tie.Need-add-w Inv-loop μ-loop
 add-w c = omega arith
 
--- src/lib.rt:49:5
 loop-less : tie.Need-loop-less Inv-loop μ-loop
 loop-less c = omega arith
 
--- src/lib.rt:49:5
 loop-again : tie.Need-loop-again Inv-loop μ-loop
 loop-again c = (read-more _ _ _ _ (c .before .before .loop .inv .0) (omega arith), search needs)
 
--- src/lib.rt:41:1
 returns-2 : tie.Need-returns-2 Inv-loop μ-loop
 returns-2 c = read-all _ _ _ _ (c .before .loop .inv .0) (omega arith) ∙ sym (row-low _ _ (c .before .loop .inv .1))
 

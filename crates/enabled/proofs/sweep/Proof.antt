@@ -2,8 +2,7 @@
 use mathlib.Core.Path.{sym, _∙_}
 use borrow.Author.Needs.{needs}
 use native.Mathlib.Omega.{arith}
-use Rattle.positions.specs.Sets.{setWords, memberCount}
-use Rattle.positions.proofs.SetLaws.{WordList}
+use Rattle.positions.specs.Sets.{memberCount}
 use Rattle.positions.proofs.SetCodeLaws.{word-list}
 use Rattle.enabled.specs.Parts.{TakesOut}
 use Rattle.enabled.proofs.PassLaws.{takes-none}
@@ -19,46 +18,40 @@ use Rattle.positions.proofs.intersection.Reads as intersection-reads
 use Rattle.positions.proofs.subset.Reads as subset-reads
 
 abbrev Inv-loop : tie.InvT-loop
-Inv-loop table n s₀ s = WordList setWords (s .words) × TakesOut table n (s₀ .words) (s .words)
+Inv-loop table n s₀ s = TakesOut table n (s₀ .words) (s .words)
 
 abbrev μ-loop : tie.MeasureT-loop
 μ-loop table n s₀ s = memberCount (s .words)
 
--- src/lib.rt:147:44
 below-requires : tie.Need-below-requires Inv-loop μ-loop
 below-requires c κs = search needs
 
--- src/lib.rt:147:9
 intersection-requires : tie.Need-intersection-requires Inv-loop μ-loop
 intersection-requires c κs = search needs
 
--- src/lib.rt:148:5
 loop-holds : tie.Need-loop-holds Inv-loop μ-loop
-loop-holds c = (word-list _ (search needs) (λ v. search needs), takes-none _ _ _)
+loop-holds c = takes-none _ _ _
 
--- src/lib.rt:149:32
 up-requires : tie.Need-up-requires Inv-loop μ-loop
 up-requires c κs = search needs
 
--- src/lib.rt:149:13
 down-requires : tie.Need-down-requires Inv-loop μ-loop
 down-requires c κs = search needs
 
--- src/lib.rt:150:12
 subset-requires : tie.Need-subset-requires Inv-loop μ-loop
 subset-requires c κs = search needs
 
--- src/lib.rt:151:13
 returns : tie.Need-returns Inv-loop μ-loop
-returns c = round-last _ _ _ _ _ (c .before .before .before .up .ensures) (c .before .before .down .ensures) _ _ _ (omega arith) (c .before .before .before .before .before .intersection .ensures) (c .before .before .before .before .before .before .below .ensures) (c .before .before .before .before .loop .inv .1) (sym (c .before .subset .ensures) ∙ c .if1 .taken) (c .before .before .before .before .loop .inv .0)
+returns c =
+    round-last _ _ _ _ _ (c .before .before .before .up .ensures) (c .before .before .down .ensures) _ _ _ (omega arith)
+    (c .before .before .before .before .before .intersection .ensures) (c .before .before .before .before .before .before .below .ensures)
+    (c .before .before .before .before .loop .inv) (sym (c .before .subset .ensures) ∙ c .if1 .taken) (word-list _ (search needs) (λ v. search needs))
 
--- src/lib.rt:148:5
 loop-less : tie.Need-loop-less Inv-loop μ-loop
 loop-less c = round-less _ _ _ _ _ (c .before .before .before .up .ensures) (c .before .before .down .ensures) (sym (c .before .subset .ensures) ∙ c .if1 .left)
 
--- src/lib.rt:148:5
 loop-again : tie.Need-loop-again Inv-loop μ-loop
-loop-again c = (word-list _ (search needs) (λ v. search needs), round-next _ _ _ _ _ (c .before .before .before .up .ensures) (c .before .before .down .ensures) _ (c .before .before .before .before .loop .inv .1))
+loop-again c = round-next _ _ _ _ _ (c .before .before .before .up .ensures) (c .before .before .down .ensures) _ (c .before .before .before .before .loop .inv)
 
 pub sweep-spec : {M : Type 1} → statement M
 sweep-spec =

@@ -1,6 +1,5 @@
 -- `enabled::up` meets its contract. The loop: the rows passed are tested. Assumes nothing.
 use Prim.Native.Nat.{_-_, _≤_}
-use mathlib.Core.Path.{_≡_, subst}
 use borrow.Author.Needs.{needs}
 use native.Mathlib.Omega.{arith}
 use Rattle.enabled.specs.Parts.{Passes}
@@ -18,31 +17,25 @@ Inv-loop table n t₀ i₀ t i = (i ≤ n) × Passes table n i (t₀ .words) (t 
 abbrev μ-loop : tie.MeasureT-loop
 μ-loop table n t₀ i₀ t i = n - i
 
--- src/lib.rt:114:5
 loop-holds : tie.Need-loop-holds Inv-loop μ-loop
 loop-holds c = (omega arith, pass-none _ _ _)
 
--- src/lib.rt:115:21
 row-requires : tie.Need-row-requires Inv-loop μ-loop
 row-requires c κs = search needs
 
--- src/lib.rt:115:9
 kept-requires : tie.Need-kept-requires Inv-loop μ-loop
 kept-requires c κs = search needs
 
--- src/lib.rt:116:9
 add-i : tie.Need-add-i Inv-loop μ-loop
 add-i c = search needs
 
--- src/lib.rt:114:5
 loop-less : tie.Need-loop-less Inv-loop μ-loop
 loop-less c = omega arith
 
--- src/lib.rt:114:5
 loop-again : tie.Need-loop-again Inv-loop μ-loop
-loop-again c = (omega arith, pass-next _ _ (omega arith) _ (omega arith) _ _ _ _ (c .before .row .ensures) (c .kept .ensures) (c .before .before .before .loop .inv .1))
+loop-again c =
+    (omega arith, pass-next _ _ (omega arith) _ (omega arith) _ _ _ _ (c .before .row .ensures) (c .kept .ensures) (c .before .before .before .loop .inv .1))
 
--- src/lib.rt:109:1
 returns : tie.Need-returns Inv-loop μ-loop
 returns c = pass-all _ _ _ _ _ (c .before .loop .inv .1) (omega arith)
 

@@ -1,6 +1,6 @@
 -- `enabled::with_selves` meets its contract. The loop: the rows passed have their own positions. Assumes nothing.
 use Prim.Native.Nat.{_-_, _≤_}
-use mathlib.Core.Path.{_≡_, ap, _∙_}
+use mathlib.Core.Path.{_≡_, _∙_}
 use borrow.Author.Needs.{needs}
 use native.Mathlib.Omega.{arith}
 use Rattle.enabled.specs.Tables.{tableOf}
@@ -22,35 +22,29 @@ Inv-loop table n words₀ i₀ words i = (i ≤ n) × (words ≡ tableOf i (with
 abbrev μ-loop : tie.MeasureT-loop
 μ-loop table n words₀ i₀ words i = n - i
 
--- src/lib.rt:156:5
 loop-holds : tie.Need-loop-holds Inv-loop μ-loop
 loop-holds c = (omega arith, zero-table _)
 
--- src/lib.rt:157:50
 row-requires : tie.Need-row-requires Inv-loop μ-loop
 row-requires c κs = search needs
 
--- src/lib.rt:157:32
 insert-requires : tie.Need-insert-requires Inv-loop μ-loop
 insert-requires c κs = search needs
 
--- src/lib.rt:157:9
 put-row-requires : tie.Need-put-row-requires Inv-loop μ-loop
 put-row-requires c κs = search needs
 
--- src/lib.rt:158:9
 add-i : tie.Need-add-i Inv-loop μ-loop
 add-i c = search needs
 
--- src/lib.rt:156:5
 loop-less : tie.Need-loop-less Inv-loop μ-loop
 loop-less c = omega arith
 
--- src/lib.rt:156:5
 loop-again : tie.Need-loop-again Inv-loop μ-loop
-loop-again c = (omega arith, c .put-row .ensures ∙ table-more _ _ _ _ (c .before .before .before .before .before .loop .inv .1) (c .before .insert .ensures ∙ self-row _ _ (c .before .before .row .ensures ∙ row-low _ _ (omega arith))) (omega arith))
+loop-again c =
+    let own = c .before .insert .ensures ∙ self-row _ _ (c .before .before .row .ensures ∙ row-low _ _ (omega arith)) in
+    (omega arith, c .put-row .ensures ∙ table-more _ _ _ _ (c .before .before .before .before .before .loop .inv .1) own (omega arith))
 
--- src/lib.rt:150:1
 returns : tie.Need-returns Inv-loop μ-loop
 returns c = table-all _ _ _ _ (c .before .loop .inv .1) (omega arith)
 

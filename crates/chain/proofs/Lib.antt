@@ -1,0 +1,9 @@
+pub mod LayerLaws
+pub mod SweepLaws
+pub mod WayLaws
+pub mod FallLaws
+pub mod WriteLaws
+pub mod TellLaws
+pub mod ChainLaws
+pub mod Told
+pub mod Answers
