@@ -41,7 +41,7 @@ ghost use Rattle.enabled.specs.Parts.{
 
 pub const TABLE_WORDS: usize = WORDS * MOST_FEATURES;
 
-// A row of words for each position.
+// Document 01: "The reach table has 64 rows"; the words of row i are the set at position i.
 pub struct Rows {
     pub words: [u64; TABLE_WORDS],
 }
@@ -59,19 +59,21 @@ pub struct ReachTable {
     pub rows: Rows,
 }
 
+// The smaller of two numbers.
 fn least(a: usize, b: usize) -> usize
     ensures { λ r. ⌜ r ≡ min a b ⌝ }
 {
     if a < b { a } else { b }
 }
 
+// A slot as a position.
 fn wide(x: u16) -> usize
     ensures { λ r. ⌜ r ≡ x ⌝ }
 {
     x as usize
 }
 
-// The set in a row of a table, empty from row 64 on: one step a word.
+// The set in a row of a table, empty from row 64 on: a round and one read for each word of a row.
 pub fn row(table: &[u64; TABLE_WORDS], i: usize) -> Set
     ensures { λ r. ⌜ r .words ≡ rowOrNone (now (table .entry)) i ⌝ }
 {
@@ -87,7 +89,7 @@ pub fn row(table: &[u64; TABLE_WORDS], i: usize) -> Set
     s
 }
 
-// A row of a table is replaced: one step a word.
+// A row of a table is replaced: a round and one write for each word of a row.
 fn put_row(table: &mut [u64; TABLE_WORDS], i: usize, s: Set)
     requires { ⌜ i < mostFeatures ⌝ }
     ensures { λ r. ⌜ now (table .exit) ≡ withRow (now (table .entry)) i (s .words) ⌝ }
@@ -99,7 +101,7 @@ fn put_row(table: &mut [u64; TABLE_WORDS], i: usize, s: Set)
     }
 }
 
-// The set of the first `n` slots of position `i`: one step a slot.
+// The set of the first `n` slots of position `i`: a round for each slot, which changes one word.
 fn dependencies(slots: &[u16; SLOTS], i: usize, n: usize) -> Set
     requires { ⌜ (i < mostFeatures) × (n ≤ mostDependencies) ⌝ }
     ensures { λ r. ⌜ r .words ≡ slotSet (now (slots .entry)) i n ⌝ }
@@ -113,7 +115,7 @@ fn dependencies(slots: &[u16; SLOTS], i: usize, n: usize) -> Set
     s
 }
 
-// The dependencies of each feature of a record, as rows: at most 64 rows of at most sixteen slots each.
+// The dependencies of each feature of a record, as rows: at most 64 rounds, each of at most sixteen slots and one row.
 pub fn needs(r: Record) -> Rows
     ensures { λ x. ⌜ x .words ≡ dependencyTable r ⌝ }
 {
@@ -139,7 +141,8 @@ fn kept(s: Set, x: Set, i: usize) -> Set
     positions::remove(s, i)
 }
 
-// One pass over the rows from the first to the last: each member whose row is not inside the set is taken out. One row a position.
+// One pass over the rows from the first to the last: each member whose row is not inside the set is taken out. `n` rounds, each of
+// one row: a read and a test for each of its words, and one word changed.
 fn up(table: &[u64; TABLE_WORDS], n: usize, s: Set) -> Set
     requires { ⌜ n ≤ mostFeatures ⌝ }
     ensures { λ r. ⌜ Passes (now (table .entry)) n n (s .words) (r .words) ⌝ }
@@ -153,7 +156,7 @@ fn up(table: &[u64; TABLE_WORDS], n: usize, s: Set) -> Set
     t
 }
 
-// The same from the last row to the first.
+// The same from the last row to the first, in as many rounds.
 fn down(table: &[u64; TABLE_WORDS], n: usize, s: Set) -> Set
     requires { ⌜ n ≤ mostFeatures ⌝ }
     ensures { λ r. ⌜ TakesOut (now (table .entry)) n (s .words) (r .words) ⌝ }
@@ -162,12 +165,14 @@ fn down(table: &[u64; TABLE_WORDS], n: usize, s: Set) -> Set
     let mut i = n;
     while 0 < i {
         i -= 1;
-        t = kept(t, row(table, i), i);
+        let x = row(table, i);
+        t = kept(t, x, i);
     }
     t
 }
 
-// The enabled positions below `n`: passes over the rows, up and down, until nothing changes.
+// The enabled positions below `n`: passes over the rows, up and down, until nothing changes. Each round is `2 * n` rows, and each but
+// the last takes a member out, so there are at most `n + 1` rounds; a chain of dependencies in one direction falls in the first.
 fn sweep(table: &[u64; TABLE_WORDS], n: usize, p: Set) -> Set
     requires { ⌜ n ≤ mostFeatures ⌝ }
     ensures { λ r. ⌜ Enables (now (table .entry)) n (p .words) (r .words) ⌝ }
@@ -176,13 +181,13 @@ fn sweep(table: &[u64; TABLE_WORDS], n: usize, p: Set) -> Set
     loop {
         let t = down(table, n, up(table, n, s));
         if positions::subset(s, t) {
-            return s;
+            return t;
         }
         s = t;
     }
 }
 
-// The first `n` rows, each with its own position put in.
+// The first `n` rows, each with its own position put in: `n` rounds, each of one row read and one written.
 fn with_selves(table: &[u64; TABLE_WORDS], n: usize) -> Rows
     requires { ⌜ n ≤ mostFeatures ⌝ }
     ensures { λ r. ⌜ r .words ≡ tableOf n (withSelf (now (table .entry))) ⌝ }
@@ -206,7 +211,7 @@ fn joined(x: Set, y: Set, k: usize) -> Set
     x
 }
 
-// Each of the first `n` rows that has `k` takes in row `k`.
+// Each of the first `n` rows that has `k` takes in row `k`: `n` rounds, each of a read, a step and a write for each word of a row.
 fn join(table: &mut [u64; TABLE_WORDS], n: usize, k: usize)
     requires { ⌜ (n ≤ mostFeatures) × (k < n) ⌝ }
     ensures { λ r. ⌜ Joins n k (now (table .entry)) (now (table .exit)) ⌝ }
@@ -220,7 +225,7 @@ fn join(table: &mut [u64; TABLE_WORDS], n: usize, k: usize)
     }
 }
 
-// The reach table of the first `n` positions: a row for each, `n` times.
+// The reach table of the first `n` positions: each position is let through in turn, `n` rounds of `n` rows.
 fn reach_rows(table: &[u64; TABLE_WORDS], n: usize) -> Rows
     requires { ⌜ n ≤ mostFeatures ⌝ }
     ensures { λ r. ⌜ Reaches (now (table .entry)) n (r .words) ⌝ }
@@ -245,7 +250,7 @@ fn added(s: Set, x: Set, p: Set, i: usize) -> Set
     s
 }
 
-// Those of the first `n` positions whose rows hold only members of `p`: one row a position.
+// Those of the first `n` positions whose rows hold only members of `p`: `n` rounds, each of one row: a read and a test for each word.
 fn inside_rows(table: &[u64; TABLE_WORDS], n: usize, p: Set) -> Set
     requires { ⌜ n ≤ mostFeatures ⌝ }
     ensures { λ r. ⌜ r .words ≡ rowsInside (now (table .entry)) n (p .words) ⌝ }
