@@ -7,14 +7,17 @@ use Rattle.cells.specs.Buffer.{written}
 use Rattle.unit.specs.Hex.{allHex, hexAfter, hexChecks, readHex, digitsOf, hexText, digitCount, writeHex, afterHex}
 use Rattle.unit.specs.Unit.{readUnit, writeUnit, afterUnit}
 use Rattle.sizes.specs.Sizes.{ascends, cellChecks, sizeChecks, noSizes, sizeTable, sizes}
+use Rattle.positions.specs.Below.{every}
+use Rattle.enabled.specs.Enabled.{afterSweeps}
+use Rattle.enabled.specs.Shortest.{smallestOf, chainWithin}
 use Rattle.cases.specs.Cases.{AllHold, cases}
 
 pub all-hold : AllHold cases
-unfolding firstFault hexValue hexDigit cellAt written allHex hexAfter hexChecks readHex digitsOf hexText digitCount writeHex afterHex readUnit writeUnit afterUnit ascends cellChecks sizeChecks noSizes sizeTable sizes
+unfolding firstFault hexValue hexDigit cellAt written allHex hexAfter hexChecks readHex digitsOf hexText digitCount writeHex afterHex readUnit writeUnit afterUnit ascends cellChecks sizeChecks noSizes sizeTable sizes every afterSweeps smallestOf chainWithin
 all-hold = (
   (refl, refl),
   (
     (refl, refl),
-    (refl, (refl, (refl, (refl, (refl, (refl, (refl, (refl, (refl, (refl, (refl, (refl, tt)))))))))))),
+    (refl, (refl, (refl, (refl, (refl, (refl, (refl, (refl, (refl, (refl, (refl, (refl, (refl, (refl, (refl, tt))))))))))))))),
   ),
 )

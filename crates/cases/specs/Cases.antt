@@ -2,13 +2,18 @@
 use Prim.Native.Nat.{ℕ, _/_, _%_}
 use Prim.Native.String.{String}
 use mathlib.Core.Path.{_≡_}
+use mathlib.Core.Bool.{Bool, true, false}
 use mathlib.Core.List.{List, [], _∷_}
-use lib.ListN.{length, replicate}
+use lib.ListN.{length, getD, replicate}
 use Rattle.characters.specs.Characters.{bytes}
 use Rattle.refusal.specs.Refusal.{Outcome, answer, refuse}
 use Rattle.unit.specs.Unit.{readUnit, writeUnit, afterUnit}
 use Rattle.sizes.specs.Sizes.{sizes, noSizes}
 use Rattle.sizes.specs.declared.SizeTable.{SizeTable}
+use Rattle.cells.specs.Rows.{each}
+use Rattle.positions.specs.Sets.{room}
+use Rattle.enabled.specs.Enabled.{enabled}
+use Rattle.enabled.specs.Shortest.{shortestChain}
 
 -- the value of a property that is a run of cells
 abbrev pub valueOf : List ℕ → List ℕ
@@ -19,13 +24,28 @@ pub data Case : Type 0 where
   writesUnit : (number : ℕ) (text : String) → Case
   readsUnit : (text : String) (outcome : Outcome ℕ) → Case
   pageSizes : (exponents : List ℕ) (outcome : Outcome SizeTable) → Case
+  enables : (needs : List (List ℕ)) (permitted members : List Bool) → Case
+  reports : (needs : List (List ℕ)) (permitted : List Bool) (position : ℕ) (chain : List ℕ) → Case
 
--- a number is written into a buffer as long as the text; a text is read; cells are read as page sizes
+-- features by what each needs: how many dependencies the one at a position has, and its j-th
+abbrev pub number : List (List ℕ) → ℕ → ℕ
+number needs i = length (getD needs i [])
+
+abbrev pub dependency : List (List ℕ) → ℕ → ℕ → ℕ
+dependency needs i j = getD (getD needs i []) j 0
+
+abbrev pub isOn : List Bool → ℕ → Bool
+isOn bs i = getD bs i false
+
+-- a number is written into a buffer as long as the text; a text is read; cells are read as page sizes; of features by their needs,
+-- the enabled ones are those; the chain from a position is that
 abbrev pub Holds : Case → Type 0
 Holds (writesUnit n t) =
     (writeUnit n (length (bytes t)) ≡ answer (length (bytes t))) × (afterUnit n (replicate (length (bytes t)) 0) ≡ bytes t)
 Holds (readsUnit t o) = readUnit (bytes t) ≡ o
 Holds (pageSizes es o) = sizes (valueOf es) ≡ o
+Holds (enables needs ps ms) = each (length needs) (enabled (number needs) (dependency needs) (isOn ps) (length needs)) ≡ ms
+Holds (reports needs ps i c) = shortestChain (number needs) (dependency needs) (isOn ps) room (length needs) i ≡ c
 
 abbrev pub AllHold : List Case → Type 0
 AllHold [] = Unit
@@ -50,4 +70,8 @@ cases =
     ∷ pageSizes (63 ∷ []) (answer (record { count = 1; exponents = 63 ∷ replicate 15 0 }))
     ∷ pageSizes (64 ∷ []) (refuse noSizes 12)
     ∷ pageSizes [] (refuse noSizes 11)
+    -- "A and B need each other, both permitted: both enabled. B unpermitted: none, chain of A is A, B."
+    ∷ enables ((1 ∷ []) ∷ (0 ∷ []) ∷ []) (true ∷ true ∷ []) (true ∷ true ∷ [])
+    ∷ enables ((1 ∷ []) ∷ (0 ∷ []) ∷ []) (true ∷ false ∷ []) (false ∷ false ∷ [])
+    ∷ reports ((1 ∷ []) ∷ (0 ∷ []) ∷ []) (true ∷ false ∷ []) 0 (0 ∷ 1 ∷ [])
     ∷ []

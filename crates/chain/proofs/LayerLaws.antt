@@ -1,4 +1,4 @@
--- Laws of layers: what one sweep leaves, and that layers only lose members, the last of them none. Assumes nothing.
+-- Laws of layers: what one sweep leaves; where one takes nothing out, no later one does. Assumes nothing.
 use Prim.Native.Nat.{ℕ, _+_, _≤_, _<_}
 use mathlib.Core.Path.{_≡_, sym, ap, ap₂, _∙_}
 use mathlib.Core.Bool.{true, false, _&&_, cond}

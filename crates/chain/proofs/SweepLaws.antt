@@ -17,10 +17,10 @@ use Rattle.enabled.proofs.Sweeps.{sweeps-permitted, sweeps-dependencies, sweeps
 use Rattle.chain.specs.Layers.{isLeft, swept, layerAt}
 use Rattle.chain.proofs.LayerLaws.{has-swept}
 
-either-way : (a b : Bool) → (a ≡ true → b ≡ true) → (b ≡ true → a ≡ true) → a ≡ b
-either-way true b f g = sym (f refl)
-either-way false true f g = g refl
-either-way false false f g = refl
+same-truth : (a b : Bool) → (a ≡ true → b ≡ true) → (b ≡ true → a ≡ true) → a ≡ b
+same-truth true b f g = sym (f refl)
+same-truth false true f g = g refl
+same-truth false false f g = refl
 
 module _ (num : ℕ → ℕ) (dep : ℕ → ℕ → ℕ) (n : ℕ) (table : List ℕ) (shows : Shows num dep n table) (few : n ≤ room) where
   -- a row has the dependencies of its position
@@ -41,7 +41,7 @@ module _ (num : ℕ → ℕ) (dep : ℕ → ℕ → ℕ) (n : ℕ) (table : List
         → has (swept table n s) i ≡ afterSweeps num dep permitted (suc k) i
     unfolding isLeft
     swept-once s k f i h =
-        has-swept table s n i few ∙ ap (λ (b : Bool). b && isLeft table s i) (lt-ltb i n h) ∙ either-way (isLeft table s i) (left (suc k) i) to from
+        has-swept table s n i few ∙ ap (λ (b : Bool). b && isLeft table s i) (lt-ltb i n h) ∙ same-truth (isLeft table s i) (left (suc k) i) to from
       where
         to : isLeft table s i ≡ true → left (suc k) i ≡ true
         to e =

@@ -23,7 +23,7 @@ use Rattle.chain.specs.declared.Layers.{Layers}
 unfoldable pub withLeft : List ℕ → List ℕ → List ℕ → ℕ → List ℕ
 withLeft set s row i = cond (has s i && isSubset row s) (withMember set i) set
 
--- "one sweep": the members of s below n whose rows are inside s
+-- one sweep: the members of s below n whose rows are inside s
 unfoldable pub isLeft : List ℕ → List ℕ → ℕ → Bool
 isLeft table s i = has s i && isSubset (rowAt table i) s
 
@@ -56,7 +56,7 @@ unfoldable pub wayDown : List ℕ → (ℕ → List ℕ) → ℕ → ℕ → Lis
 wayDown table layers zero i = i ∷ []
 wayDown table layers (suc k) i = i ∷ wayDown table layers k (nextBelow table (layers k) i)
 
--- "one byte a position"
+-- every position of a list is below n
 abbrev pub AllBelow : ℕ → List ℕ → Type 0
 AllBelow n [] = Unit {0}
 AllBelow n (x ∷ xs) = (x < n) × AllBelow n xs
