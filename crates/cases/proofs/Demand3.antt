@@ -67,7 +67,7 @@ module _ (r : Record) (e : wellFormed r ≡ true) (level : ℕ) (g : Grants) whe
   member-below : (i : ℕ) → has E i ≡ true → i < r .count
   member-below i h = ltb-true i (r .count) (and-left _ _ (sym (member i) ∙ h))
 
-  -- 1. the plain sweep and enabling by the reach table give the same set
+  -- 1. the sweep and enabling by the reach table give the same set
   row-same : (i : ℕ) → i < r .count → enabledByReach (inRow (reachTable r)) (has P) room i ≡ enabled (dependenciesIn r) (dependencyIn r) (has P) (r .count) i
   unfolding reachTable
   row-same i h =
