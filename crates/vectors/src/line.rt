@@ -47,10 +47,14 @@ pub(crate) fn put_number(out: &mut Buffer, used: usize, number: u64) -> usize {
     put_text(out, at, &text[..length])
 }
 
+pub(crate) fn put_refusal(out: &mut Buffer, used: usize, refusal: Refusal) -> usize {
+    put_number(out, used, refusal::number(refusal) as u64)
+}
+
 // Starts a line: its kind and the refusal number.
 pub(crate) fn put_start(out: &mut Buffer, kind: u8, refusal: Refusal) -> usize {
     let used = put_byte(out, 0, kind);
-    put_number(out, used, refusal::number(refusal) as u64)
+    put_refusal(out, used, refusal)
 }
 
 // Puts bytes as numbers.
@@ -70,6 +74,17 @@ pub(crate) fn put_cells(out: &mut Buffer, used: usize, cells: &[u32]) -> usize {
     let mut i = 0;
     while i < cells.len() {
         at = put_number(out, at, wider(cells[i]));
+        i += 1;
+    }
+    at
+}
+
+// Puts words as numbers.
+pub(crate) fn put_words(out: &mut Buffer, used: usize, words: &[u64]) -> usize {
+    let mut at = used;
+    let mut i = 0;
+    while i < words.len() {
+        at = put_number(out, at, words[i]);
         i += 1;
     }
     at

@@ -5,7 +5,9 @@
 // come, and its modules list the kinds. Whatever is no vector ends the run with the line `bad vector`.
 mod cpu;
 mod line;
+mod queries;
 mod records;
+mod resolver;
 mod trees;
 
 use libc::STDIN_FILENO;
@@ -48,6 +50,10 @@ fn answer(out: &mut Buffer, kind: u8, value: &mut [u8]) -> usize {
         b't' => trees::tree(out, value),
         b'l' => trees::property_lookup(out, value),
         b'r' => records::record(out, value),
+        b'e' => resolver::enabled_sets(out, value),
+        b'n' => resolver::reach_table(out, value),
+        b'b' => resolver::enabled_by_table(out, value),
+        b'c' => resolver::chains(out, value),
         _ => 0,
     }
 }

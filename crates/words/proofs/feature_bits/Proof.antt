@@ -1,5 +1,6 @@
 -- `words::feature_bits` meets its contract. Assumes nothing.
 use mathlib.Core.Path.{ap, ap₂, _∙_}
+use mathlib.Core.Bool.{_&&_}
 use Rattle.record.specs.Cells.{lowBit}
 use Rattle.words.specs.Parts.{bitWhere}
 use borrow.Author.Needs.{needs}
