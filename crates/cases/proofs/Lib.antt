@@ -1,2 +1,5 @@
 pub mod Marked
 pub mod Demand3
+pub mod GraphLaws
+pub mod IsaLaws
+pub mod Ignored

@@ -16,3 +16,4 @@ pub mod ThroughLaws
 pub mod JoinLaws
 pub mod InsideLaws
 pub mod AnswerLaws
+pub mod Answers

@@ -15,7 +15,7 @@ use Rattle.record.specs.declared.Record.{Record}
 use Rattle.record.specs.declared.Cell.{Cell}
 use Rattle.record.specs.declared.Cell.the-variants.{Absent, Given}
 use Rattle.record.specs.declared.Property.the-variants.{UsablePrivilege, HvSupport, OsSupport, HfscrBitNr, FscrBitNr}
-use Rattle.permitted.specs.Permitted.{isUsable, isGranted, isSupported, isSupportedBelow, isPermitted, permittedAt, permittedSet, system, hypervisor}
+use Rattle.permitted.specs.Permitted.{withIsa, isUsable, isGranted, isSupported, isSupportedBelow, isPermitted, permittedAt, permittedSet, system, hypervisor}
 use Rattle.permitted.specs.declared.Grants.{Grants}
 use Rattle.permitted.proofs.PermittedLaws.{or-true, byPrivilege}
 
@@ -58,22 +58,6 @@ same-cells e f level g i s =
     && isSupportedBelow system level (s .os-support k) (s .fscr k) (g .fscr) (has (g .system .words) i)
 
 -- a feature with another `isa`
-abbrev pub withIsa : Feature → ℕ → Feature
-withIsa f x = record {
-  offset = f .offset;
-  given = f .given;
-  isa = x;
-  «usable_privilege» = f .«usable_privilege»;
-  «hv_support» = f .«hv_support»;
-  «os_support» = f .«os_support»;
-  «hfscr_bit_nr» = f .«hfscr_bit_nr»;
-  «fscr_bit_nr» = f .«fscr_bit_nr»;
-  «hwcap_bit_nr» = f .«hwcap_bit_nr»;
-  phandle = f .phandle;
-  dependencies = f .dependencies;
-}
-
--- "`isa` filters nothing here."
 pub feature-isa-ignored : (f : Feature) (x level : ℕ) (g : Grants) (i : ℕ) → isPermitted (withIsa f x) level g i ≡ isPermitted f level g i
 unfolding cell held bitOf
 feature-isa-ignored f x level g i =

@@ -1,3 +1,4 @@
 pub mod WordLaws
 pub mod BitsLaws
 pub mod AnswerLaws
+pub mod Answers

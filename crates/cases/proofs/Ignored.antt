@@ -1,0 +1,153 @@
+-- "Mask bits at or above the count are ignored in the first two", and "`isa` filters nothing here": no answer tells. Assumes nothing.
+use Prim.Native.Nat.{ℕ}
+use mathlib.Core.Path.{_≡_, refl, sym, ap, _∙_}
+use mathlib.Core.Bool.{Bool, true, false, not}
+use mathlib.Core.List.{List, [], _∷_, _++_}
+use borrow.Author.Tests.{ltb-true, not-true}
+use lib.Dec.{leb, ltb}
+use lib.ListN.{length, replicate}
+use Rattle.refusal.specs.Refusal.{answer, refuse}
+use Rattle.refusal.specs.Checks.{Check, check, firstFault}
+use Rattle.cells.specs.Buffer.{written}
+use Rattle.positions.specs.Sets.{setWords, room, has, collect, setOf, noMembers}
+use Rattle.record.specs.declared.Record.{Record}
+use Rattle.record.specs.WellFormed.{wellFormed}
+use Rattle.permitted.specs.declared.Grants.{Grants}
+use Rattle.permitted.specs.Permitted.{hypervisor, permittedSet}
+use Rattle.permitted.specs.Asked.{askedChecks, permitted}
+use Rattle.permitted.proofs.GrantLaws.{only-below, isa-ignored}
+use Rattle.enabled.specs.Reach.{enabledByReach}
+use Rattle.enabled.specs.Tables.{inRow, tableWords}
+use Rattle.enabled.specs.Answers.{membersOf, nobody, enabledSet, enable, reachOf, enabledByTable, enableByTable}
+use Rattle.chain.specs.Chain.{isEnabled, chainIn, chainChecks, chain, afterChain}
+use Rattle.words.specs.Words.{WordValues, noWords, wordsOf, words}
+use Rattle.cases.specs.Ignored.{ButAbove, ButIsa}
+use Rattle.cases.proofs.IsaLaws.{same-form, same-enabled, same-set, same-table, same-chain, same-words}
+
+-- grants that differ only in mask bits at or above the count
+module _ (r : Record) (level : ℕ) (g h : Grants) (a : ButAbove (r .count) g h) where
+  same-permitted : permittedSet r level g ≡ permittedSet r level h
+  same-permitted = only-below r level g h (λ i l. record { hypervisor = a .hypervisor i l; system = a .system i l }) (a .hfscr) (a .fscr)
+
+  pub permitted-masks : permitted r level g ≡ permitted r level h
+  unfolding permitted
+  permitted-masks = ap (λ (p : List ℕ). firstFault (refuse (setOf noMembers)) (askedChecks r level) (answer p)) same-permitted
+
+  pub enable-masks : enable r level g ≡ enable r level h
+  unfolding enable
+  enable-masks = ap (λ (p : List ℕ). firstFault (refuse nobody) (askedChecks r level) (answer (membersOf (enabledSet r p)))) same-permitted
+
+  pub by-table-masks : (table : List ℕ) → enableByTable r table level g ≡ enableByTable r table level h
+  unfolding enableByTable
+  by-table-masks table =
+      ap (λ (p : List ℕ). firstFault (refuse nobody) (askedChecks r level) (answer (membersOf (enabledByTable r table p)))) same-permitted
+
+  checks-masks : (i size : ℕ) → chainChecks r level g i size ≡ chainChecks r level h i size
+  unfolding chainChecks
+  checks-masks i size =
+      ap
+      (λ (p : List ℕ).
+      askedChecks r level ++ (check (ltb i (r .count)) 16 ∷ check (not (isEnabled r p i)) 17 ∷ check (leb (length (chainIn r p i)) size) 18 ∷ []))
+      same-permitted
+
+  pub chain-masks : (i size : ℕ) → chain r level g i size ≡ chain r level h i size
+  unfolding chain
+  chain-masks i size = λ k. firstFault (refuse 0) (checks-masks i size k) (answer (length (chainIn r (same-permitted k) i)))
+
+  pub after-chain-masks : (i : ℕ) (old : List ℕ) → afterChain r level g i old ≡ afterChain r level h i old
+  unfolding afterChain
+  after-chain-masks i old = λ k. firstFault (λ (n : ℕ). old) (checks-masks i (length old) k) (written old 0 (chainIn r (same-permitted k) i))
+
+  words-of-masks : (enabled : List ℕ) → wordsOf r level g enabled ≡ wordsOf r level h enabled
+  unfolding wordsOf
+  words-of-masks enabled = let p = a .hfscr in let q = a .fscr in rw (p, q)
+
+  pub words-masks : words r level g ≡ words r level h
+  unfolding words
+  words-masks =
+      ap (λ (v : WordValues). firstFault (refuse noWords) (askedChecks r level) (answer v))
+      (words-of-masks (enabledSet r (permittedSet r level g)) ∙ ap (λ (p : List ℕ). wordsOf r level h (enabledSet r p)) same-permitted)
+
+-- equal tests, and where they hold the same after them
+check-same : {A : Type 0} (refused : ℕ → A) (b c : Bool) (n : ℕ) (cs ds : List (Check ℕ)) (x y : A) → b ≡ c
+    → (b ≡ true → firstFault refused cs x ≡ firstFault refused ds y) → firstFault refused (check b n ∷ cs) x ≡ firstFault refused (check c n ∷ ds) y
+unfolding firstFault
+check-same {A} refused b c n cs ds x y e f = go b f ∙ ap (λ (t : Bool). firstFault refused (check t n ∷ ds) y) e
+  where
+    go : (t : Bool) → (t ≡ true → firstFault refused cs x ≡ firstFault refused ds y)
+        → firstFault refused (check t n ∷ cs) x ≡ firstFault refused (check t n ∷ ds) y
+    go true f = f refl
+    go false f = refl
+
+-- records that differ only in `isa`
+module _ (r s : Record) (b : ButIsa r s) where
+  pub well-formed-isa : wellFormed r ≡ wellFormed s
+  well-formed-isa = same-form r s b
+
+  asked : {A : Type 0} (refused : ℕ → A) (level : ℕ) (cs ds : List (Check ℕ)) (x y : A)
+      → (wellFormed r ≡ true → firstFault refused cs x ≡ firstFault refused ds y)
+      → firstFault refused (askedChecks r level ++ cs) x ≡ firstFault refused (askedChecks s level ++ ds) y
+  unfolding askedChecks
+  asked refused level cs ds x y f =
+      check-same refused (wellFormed r) (wellFormed s) 14 _ _ x y well-formed-isa
+      (λ good. check-same refused (leb level hypervisor) (leb level hypervisor) 15 cs ds x y refl (λ known. f good))
+
+  -- "for each feature itself and all it needs"
+  pub reach-isa : reachOf r ≡ reachOf s
+  unfolding reachOf firstFault
+  reach-isa =
+      check-same (refuse (replicate tableWords 0)) (wellFormed r) (wellFormed s) 14 [] [] _ _ well-formed-isa (λ good. ap answer (same-table r s b good))
+
+  module _ (level : ℕ) (g : Grants) where
+    permits : permittedSet r level g ≡ permittedSet s level g
+    permits = sym (isa-ignored r s level g (b .count) (b .features))
+
+    enables : wellFormed r ≡ true → enabledSet r (permittedSet r level g) ≡ enabledSet s (permittedSet s level g)
+    enables good = same-set r s b good (permittedSet r level g) ∙ ap (enabledSet s) permits
+
+    pub permitted-isa : permitted r level g ≡ permitted s level g
+    unfolding permitted askedChecks firstFault
+    permitted-isa = asked (refuse (setOf noMembers)) level [] [] _ _ (λ good. ap answer permits)
+
+    pub enable-isa : enable r level g ≡ enable s level g
+    unfolding enable askedChecks firstFault
+    enable-isa = asked (refuse nobody) level [] [] _ _ (λ good. ap (λ (e : List ℕ). answer (membersOf e)) (enables good))
+
+    pub by-table-isa : (table : List ℕ) → enableByTable r table level g ≡ enableByTable s table level g
+    unfolding enableByTable enabledByTable askedChecks firstFault
+    by-table-isa table =
+        asked (refuse nobody) level [] [] _ _
+        (λ good.
+        let n = sym (b .count) in
+        λ k. answer (membersOf (collect setWords (n k) (enabledByReach (inRow table) (has (permits k)) room))))
+
+    pub words-isa : words r level g ≡ words s level g
+    unfolding words askedChecks firstFault
+    words-isa =
+        asked (refuse noWords) level [] [] _ _
+        (λ good. ap answer (same-words r s b level g (enabledSet r (permittedSet r level g)) ∙ ap (wordsOf s level g) (enables good)))
+
+    -- the chain told, or its bytes
+    told : {A : Type 0} (refused : ℕ → A) (value : List ℕ → A) (i size : ℕ)
+        → firstFault refused (chainChecks r level g i size) (value (chainIn r (permittedSet r level g) i))
+        ≡ firstFault refused (chainChecks s level g i size) (value (chainIn s (permittedSet s level g) i))
+    unfolding chainChecks
+    told {A} refused value i size =
+        asked refused level _ _ _ _
+        (λ good.
+        check-same refused (ltb i (r .count)) (ltb i (s .count)) 16 _ _ _ _ (ap (ltb i) (sym (b .count)))
+        (λ low.
+        let l = ltb-true i (r .count) low in
+        check-same refused (not (isEnabled r (permittedSet r level g) i)) (not (isEnabled s (permittedSet s level g) i)) 17 _ _ _ _
+        (ap not (same-enabled r s b good (permittedSet r level g) i l ∙ ap (λ (p : List ℕ). isEnabled s p i) permits))
+        (λ out.
+        let c = same-chain r s b good (permittedSet r level g) i l (not-true _ out) ∙ ap (λ (p : List ℕ). chainIn s p i) permits in
+        ap (λ (t : List ℕ). firstFault refused (check (leb (length t) size) 18 ∷ []) (value t)) c)))
+
+    pub chain-isa : (i size : ℕ) → chain r level g i size ≡ chain s level g i size
+    unfolding chain
+    chain-isa i size = told (refuse 0) (λ (c : List ℕ). answer (length c)) i size
+
+    pub after-chain-isa : (i : ℕ) (old : List ℕ) → afterChain r level g i old ≡ afterChain s level g i old
+    unfolding afterChain
+    after-chain-isa i old = told (λ (n : ℕ). old) (written old 0) i (length old)
