@@ -1,4 +1,4 @@
--- The table's rule: antt computes the 256 entries of the rule once and compares them with the table (`entry/Proof.antt`). Assumes nothing.
+-- The table's rule: antt computes the 256 entries of the rule once and compares them with the table (`entries/Proof.antt`). Assumes nothing.
 use mathlib.Core.Path.{_≡_, refl, sym, ap, _∙_}
 use mathlib.Core.Bool.{Bool, true, false}
 use mathlib.Core.List.{List, [], _∷_}
@@ -7,12 +7,7 @@ use native.Mathlib.Nat.{add-zero, zero-add, le-of-suc-le-suc, not-suc-le-zero}
 use native.Mathlib.Omega.{arith}
 use lib.Dec.{eqb}
 use lib.ListN.{length, getD}
-use Rattle.characters.specs.Characters.{bytes, placeOf, entryOf, isNodeCharacter, isPropertyCharacter, hexValue, hexDigit, oneIf}
-
--- f at n numbers from i on
-unfoldable pub run : (ℕ → ℕ) → ℕ → ℕ → List ℕ
-run f zero i = []
-run f (suc n) i = f i ∷ run f n (suc i)
+use Rattle.characters.specs.Characters.{bytes, placeOf, entryOf, isNodeCharacter, isPropertyCharacter, hexValue, hexDigit, oneIf, run, characterTable, isNodeEntry, isPropertyEntry}
 
 run-at : (f : ℕ → ℕ) (n i k : ℕ) → k < n → getD (run f n i) k 0 ≡ f (i + k)
 unfolding run
@@ -21,7 +16,7 @@ run-at f (suc n) i zero h = rw add-zero
 run-at f (suc n) i (suc k) h = run-at f n (suc i) k (le-of-suc-le-suc h) ∙ ap f (omega arith)
 
 -- an element of a table that is such a run
-pub in-run : (f : ℕ → ℕ) (n k : ℕ) → k < n → getD (run f n 0) k 0 ≡ f k
+in-run : (f : ℕ → ℕ) (n k : ℕ) → k < n → getD (run f n 0) k 0 ≡ f k
 in-run f n k h = run-at f n 0 k h ∙ ap f (zero-add k)
 
 -- two rules that antt computes to be the same at n numbers
@@ -60,10 +55,22 @@ module _ (b : ℕ) where
   unfolding entryOf
   entry-hex = parts (hexValue b) (isNodeCharacter b) (isPropertyCharacter b) (hex-below b) .0
 
-  pub entry-node : eqb (entryOf b / 32 % 2) 1 ≡ isNodeCharacter b
+  entry-node : isNodeEntry (entryOf b) ≡ isNodeCharacter b
   unfolding entryOf
   entry-node = rw (parts (hexValue b) (isNodeCharacter b) (isPropertyCharacter b) (hex-below b) .1) (is-one (isNodeCharacter b))
 
-  pub entry-property : eqb (entryOf b / 64) 1 ≡ isPropertyCharacter b
+  entry-property : isPropertyEntry (entryOf b) ≡ isPropertyCharacter b
   unfolding entryOf
   entry-property = rw (parts (hexValue b) (isNodeCharacter b) (isPropertyCharacter b) (hex-below b) .2) (is-one (isPropertyCharacter b))
+
+-- the entry and the class of a byte that is looked up in the table
+module _ {b : ℕ} (h : b < 256) {t : List ℕ} (e : t ≡ characterTable) where
+  pub found : getD t b 0 ≡ entryOf b
+  unfolding characterTable
+  found = ap (λ (l : List ℕ). getD l b 0) e ∙ in-run entryOf 256 b h
+
+  pub node-class : {r : Bool} → r ≡ isNodeEntry (getD t b 0) → isNodeCharacter b ≡ r
+  node-class k = sym (k ∙ ap isNodeEntry found ∙ entry-node b)
+
+  pub property-class : {r : Bool} → r ≡ isPropertyEntry (getD t b 0) → isPropertyCharacter b ≡ r
+  property-class k = sym (k ∙ ap isPropertyEntry found ∙ entry-property b)

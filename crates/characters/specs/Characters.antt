@@ -1,5 +1,5 @@
 -- The characters of names (document 01, "The walk") and of hexadecimal numbers ("CPU properties and unit text").
-use Prim.Native.Nat.{ℕ, suc, _+_, _*_, min}
+use Prim.Native.Nat.{ℕ, zero, suc, _+_, _*_, _/_, _%_, min}
 use Prim.Native.String.{String}
 use Prim.Native.String as text
 use Prim.Native.Char.{code}
@@ -48,3 +48,19 @@ oneIf false = 0
 -- one entry of the table: the hex value, and 32 and 64 for the two classes
 unfoldable pub entryOf : ℕ → ℕ
 entryOf b = hexValue b + 32 * oneIf (isNodeCharacter b) + 64 * oneIf (isPropertyCharacter b)
+
+-- f at n numbers from i on
+unfoldable pub run : (ℕ → ℕ) → ℕ → ℕ → List ℕ
+run f zero i = []
+run f (suc n) i = f i ∷ run f n (suc i)
+
+-- the table: an entry for each byte
+unfoldable pub characterTable : List ℕ
+characterTable = run entryOf 256 0
+
+-- the class that an entry says
+abbrev pub isNodeEntry : ℕ → Bool
+isNodeEntry entry = eqb (entry / 32 % 2) 1
+
+abbrev pub isPropertyEntry : ℕ → Bool
+isPropertyEntry entry = eqb (entry / 64) 1

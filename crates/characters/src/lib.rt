@@ -1,6 +1,6 @@
 // Characters of names and of hexadecimal numbers, by one constant table.
 ghost use mathlib.Core.Path.{_≡_};
-ghost use Rattle.characters.specs.Characters.{entryOf, isNodeCharacter, isPropertyCharacter, hexValue};
+ghost use Rattle.characters.specs.Characters.{entryOf, characterTable, isNodeEntry, isPropertyEntry, hexValue};
 
 // Document 01: "one constant table of 256 entries, one for each byte". An entry is the hex value (16: no
 // hex digit), and 32 for a node name's character, and 64 for a property name's.
@@ -263,24 +263,32 @@ const TABLE: [u8; 256] = [
     16,
 ];
 
+// All entries of the table, to be laid out once for a run of characters.
+pub fn entries() -> [u8; 256]
+    ensures { λ r. ⌜ r ≡ characterTable ⌝ }
+{
+    TABLE
+}
+
 fn entry(b: u8) -> u8
     ensures { λ r. ⌜ r ≡ entryOf b ⌝ }
 {
-    TABLE[b as usize]
+    let table = entries();
+    table[b as usize]
 }
 
-// Whether a node name may have this character, `@` apart.
-pub fn is_node_character(b: u8) -> bool
-    ensures { λ r. ⌜ r ≡ isNodeCharacter b ⌝ }
+// Whether a node name may have the character of an entry, `@` apart.
+pub fn is_node_entry(entry: u8) -> bool
+    ensures { λ r. ⌜ r ≡ isNodeEntry entry ⌝ }
 {
-    entry(b) / 32 % 2 == 1
+    entry / 32 % 2 == 1
 }
 
-// Whether a property name may have this character.
-pub fn is_property_character(b: u8) -> bool
-    ensures { λ r. ⌜ r ≡ isPropertyCharacter b ⌝ }
+// Whether a property name may have the character of an entry.
+pub fn is_property_entry(entry: u8) -> bool
+    ensures { λ r. ⌜ r ≡ isPropertyEntry entry ⌝ }
 {
-    entry(b) / 64 == 1
+    entry / 64 == 1
 }
 
 // The value of a hex digit of either case; 16 for any other character.

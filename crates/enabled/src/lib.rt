@@ -42,6 +42,7 @@ ghost use Rattle.enabled.specs.Parts.{
 pub const TABLE_WORDS: usize = WORDS * MOST_FEATURES;
 
 // Document 01: "The reach table has 64 rows"; the words of row i are the set at position i.
+#[repr(C)]
 pub struct Rows {
     pub words: [u64; TABLE_WORDS],
 }

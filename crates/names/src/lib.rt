@@ -45,12 +45,13 @@ pub fn node_name(s: &[u8], from: usize, end: usize) -> NameRead
     ensures { λ r. ⌜ r ≡ nodeNameAt (now (s .entry)) from end ⌝ }
 {
     let stop = search_end(s, from, end, MOST_NODE_NAME);
+    let table = characters::entries();
     let mut split = false;
     let mut fresh = true;
     let mut i = from;
     while i < stop {
         let c = s[i];
-        if characters::is_node_character(c) {
+        if characters::is_node_entry(table[c as usize]) {
             fresh = false;
             i += 1;
             continue;
@@ -79,10 +80,11 @@ pub fn property_name(s: &[u8], from: usize, end: usize) -> NameRead
     ensures { λ r. ⌜ r ≡ propertyNameAt (now (s .entry)) from end ⌝ }
 {
     let stop = search_end(s, from, end, MOST_PROPERTY_NAME);
+    let table = characters::entries();
     let mut i = from;
     while i < stop {
         let c = s[i];
-        if !characters::is_property_character(c) {
+        if !characters::is_property_entry(table[c as usize]) {
             if c != 0 {
                 return NameRead::Bad;
             }

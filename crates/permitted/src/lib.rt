@@ -20,6 +20,7 @@ pub const HYPERVISOR: u32 = 2;
 
 // Document 01: "Grants are four 64-bit masks": the features that the hypervisor supports by its own code, the same for the system, and
 // the HFSCR and FSCR bits that may be set.
+#[repr(C)]
 pub struct Grants {
     pub hypervisor: Set,
     pub system: Set,

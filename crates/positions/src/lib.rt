@@ -25,6 +25,7 @@ const WORD_BITS: u32 = 64;
 pub const WORDS: usize = 1;
 
 // Bit i % 64 of word i / 64 is set where position i is a member.
+#[repr(C)]
 pub struct Set {
     pub words: [u64; WORDS],
 }

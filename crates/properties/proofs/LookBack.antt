@@ -1,12 +1,11 @@
 -- Laws of looking back over the properties of a node or block. Assumes nothing.
-use mathlib.Core.Path.{_≡_, refl, sym, ap, subst, _∙_}
+use mathlib.Core.Path.{_≡_, refl, sym, ap, _∙_}
 use mathlib.Core.Bool.{Bool, true, false}
 use mathlib.Core.List.{List, [], _∷_, _++_}
 use Prim.Native.Nat.{ℕ, _+_, _<_, _≤_, min}
 use native.Mathlib.Omega.{arith}
 use native.Mathlib.Decide.{decLe}
 use borrow.Author.Tests.{lt-ltb, le-ltb}
-use lib.ListN.{take, drop}
 use Rattle.cells.specs.Strings.{Text, textAt}
 use Rattle.cells.proofs.Strings.{text-none}
 use Rattle.names.specs.Names.{either, sameText, isPropertyName, propertyNameAt}
@@ -103,10 +102,10 @@ module _ (s : List ℕ) (stop : ℕ) (bytes : List ℕ) (from limit t : ℕ) (n 
 
 -- the fault of a name, by what was read of it
 module _ (bytes : List ℕ) (from limit offset : ℕ) {place : ℕ} (q : place ≡ min limit (from + offset)) where
-  here : textAt bytes place limit ≡ nameAt bytes from limit offset
+  pub here : textAt bytes place limit ≡ nameAt bytes from limit offset
   here = ap (λ (x : ℕ). textAt bytes x limit) q ∙ name-placed bytes from limit offset
 
-  good-fault : {n : ℕ} (given : Bool) → propertyNameAt bytes place limit ≡ Good n → nameFault (nameAt bytes from limit offset) given ≡ pick given 9 0
+  pub good-fault : {n : ℕ} (given : Bool) → propertyNameAt bytes place limit ≡ Good n → nameFault (nameAt bytes from limit offset) given ≡ pick given 9 0
   unfolding nameFault
   good-fault {n} given e =
       let g = property-name-good bytes place limit n e in
@@ -114,11 +113,9 @@ module _ (bytes : List ℕ) (from limit offset : ℕ) {place : ℕ} (q : place �
       rw z
 
   -- a good name, which an earlier property has or has not
-  pub name-given : (t : ℕ) (ts : List Token) {n : ℕ} {r given : Bool} → propertyNameAt bytes place limit ≡ Good n → r ≡ givenBefore t (textAt bytes place limit) ts → r ≡ given
-      → pick given 9 0 ≡ nameFault (nameAt bytes from limit offset) (givenBefore t (nameAt bytes from limit offset) ts)
-  name-given t ts {n} {r} {given} e g k =
-      let z : givenBefore t (nameAt bytes from limit offset) ts ≡ given = ap (λ (x : Text). givenBefore t x ts) (sym here) ∙ sym g ∙ k in
-      rw z (sym (good-fault given e))
+  pub name-given : (t : ℕ) (ts : List Token) {n number : ℕ} → propertyNameAt bytes place limit ≡ Good n → number ≡ pick (givenBefore t (textAt bytes place limit) ts) 9 0
+      → number ≡ nameFault (nameAt bytes from limit offset) (givenBefore t (nameAt bytes from limit offset) ts)
+  name-given t ts e g = g ∙ ap (λ (x : Text). pick (givenBefore t x ts) 9 0) here ∙ sym (good-fault (givenBefore t (nameAt bytes from limit offset) ts) e)
 
   pub bad-fault : (given : Bool) → propertyNameAt bytes place limit ≡ Bad → 7 ≡ nameFault (nameAt bytes from limit offset) given
   unfolding nameFault
@@ -155,17 +152,16 @@ plain-on at next (endNode a ∷ ts) us h p q = absurd p
 plain-on at next (end a ∷ ts) us h p q = absurd p
 plain-on at next (fault a ∷ ts) us h p q = absurd p
 
--- looking back over them finds what is among their names
-look-back : (at : ℕ) (n : Text) (ts : List Token) (m : Text) (v : List ℕ) (us : List Token) → Plain at ts
-    → givenBefore at n (ts ++ property at m v ∷ us) ≡ among n (propertyNames ts)
+-- looking back over them, and no further, finds what is among their names
+look-back : (at : ℕ) (n : Text) (ts us : List Token) → Plain at ts → givenBefore at n us ≡ false → givenBefore at n (ts ++ us) ≡ among n (propertyNames ts)
 unfolding givenBefore among propertyNames
-look-back at n [] m v us p = rw (le-ltb at at (omega arith))
-look-back at n (property a k w ∷ ts) m v us p = rw (lt-ltb a at (p .0)) (ap (either (sameText k n)) (look-back at n ts m v us (p .1)))
-look-back at n (nop a ∷ ts) m v us p = rw (lt-ltb a at (p .0)) (look-back at n ts m v us (p .1))
-look-back at n (beginNode a k ∷ ts) m v us p = absurd p
-look-back at n (endNode a ∷ ts) m v us p = absurd p
-look-back at n (end a ∷ ts) m v us p = absurd p
-look-back at n (fault a ∷ ts) m v us p = absurd p
+look-back at n [] us p h = h
+look-back at n (property a k w ∷ ts) us p h = rw (lt-ltb a at (p .0)) (ap (either (sameText k n)) (look-back at n ts us (p .1) h))
+look-back at n (nop a ∷ ts) us p h = rw (lt-ltb a at (p .0)) (look-back at n ts us (p .1) h)
+look-back at n (beginNode a k ∷ ts) us p h = absurd p
+look-back at n (endNode a ∷ ts) us p h = absurd p
+look-back at n (end a ∷ ts) us p h = absurd p
+look-back at n (fault a ∷ ts) us p h = absurd p
 
 pub names-snoc : (ts : List Token) (at : ℕ) (n : Text) (v : List ℕ) → propertyNames (ts ++ property at n v ∷ []) ≡ propertyNames ts ++ n ∷ []
 unfolding propertyNames
@@ -187,10 +183,10 @@ names-nop (nop a ∷ ts) at = names-nop ts at
 names-nop (end a ∷ ts) at = names-nop ts at
 names-nop (fault a ∷ ts) at = names-nop ts at
 
--- so where they were read from a place on, the names before a property are those looked back at
-pub among-before : (s : List ℕ) (stop : ℕ) (names : ℕ → Text) (first at : ℕ) (n : Text) (read : List Token) → tokens s stop names first ≡ read ++ tokens s stop names at → Plain at read
-    → {t v l o : ℕ} {c : Cursor} → stepAt s stop at ≡ Property t v l o c → givenBefore t n (tokens s stop names first) ≡ among n (propertyNames read)
-among-before s stop names first at n read split plain {t} {v} {l} {o} {c} e =
-    let m = property-moves s stop at e in
-    ap (givenBefore t n) (split ∙ ap (λ (ts : List Token). read ++ ts) (tokens-step s stop names at e))
-    ∙ look-back t n read (names o) (take l (drop v s)) (tokens s stop names (c .at)) (subst (λ (x : ℕ). Plain x read) (sym (m .here)) plain)
+-- so where they were read from a place on, the names before the next place are those looked back at
+module _ (s : List ℕ) (stop : ℕ) (names : ℕ → Text) (first at : ℕ) (n : Text) (read : List Token) (split : tokens s stop names first ≡ read ++ tokens s stop names at) (plain : Plain at read) where
+  pub among-given : givenBefore at n (tokens s stop names first) ≡ among n (propertyNames read)
+  among-given = ap (givenBefore at n) split ∙ look-back at n read (tokens s stop names at) plain (none-before s stop names at n at (omega arith))
+
+  pub among-before : {t v l o : ℕ} {c : Cursor} → stepAt s stop at ≡ Property t v l o c → givenBefore t n (tokens s stop names first) ≡ among n (propertyNames read)
+  among-before e = ap (λ (x : ℕ). givenBefore x n (tokens s stop names first)) (property-moves s stop at e .here) ∙ among-given

@@ -5,10 +5,13 @@ use tokens::Cursor;
 use tokens::Step;
 ghost use mathlib.Core.Path.{_≡_};
 ghost use Prim.Native.Nat.{_+_, min};
+ghost use lib.ListN.{set};
 ghost use Rattle.cells.specs.Strings.{textAt, ended};
-ghost use Rattle.names.specs.Names.{sameText};
+ghost use Rattle.names.specs.Names.{both, sameText};
 ghost use Rattle.refusal.specs.Refusal.{numberOf};
+ghost use Rattle.tokens.specs.Steps.{pick};
 ghost use Rattle.tokens.specs.Tokens.{tokens};
+ghost use Rattle.properties.specs.Marks.{markFrom, markOf, isSet, withMark};
 ghost use Rattle.properties.specs.Properties.{nameAt, givenBefore, nameFault};
 
 // Where a strings block begins and ends, in the bytes that hold it.
@@ -94,6 +97,59 @@ fn given(
     false
 }
 
+// How many marks there are.
+pub const MARKS: usize = 256;
+
+// The mark of a name, one step for each character. Equal names have equal marks.
+fn mark_of(name: &[u8]) -> usize
+    ensures { λ r. ⌜ r ≡ markFrom 0 (now (name .entry)) ⌝ }
+{
+    let mut m: usize = 0;
+    let mut i: usize = 0;
+    while i < name.len() {
+        m = (m * 13 + name[i] as usize) % 4294967296;
+        i += 1;
+    }
+    m % MARKS
+}
+
+// Whether a mark is set; it is set from then on. One past the end counts as set.
+fn set_mark(marks: &mut [u8], mark: usize) -> bool
+    ensures { λ r. ⌜ (r ≡ isSet (now (marks .entry)) mark) × (now (marks .exit) ≡ set (now (marks .entry)) mark 1) ⌝ }
+{
+    if mark < marks.len() {
+        let before = marks[mark];
+        marks[mark] = 1;
+        before != 0
+    } else {
+        true
+    }
+}
+
+// 9 where an earlier property has the name at `place`, as `given` says.
+fn repetition(
+    s: &[u8],
+    end: usize,
+    first: usize,
+    t: usize,
+    strings: &[u8],
+    b: StringsBlock,
+    place: usize,
+) -> Refusal
+    ensures { λ r.
+        ⌜
+        numberOf r
+        ≡ pick (givenBefore t (textAt (now (strings .entry)) place (b .limit))
+        (tokens (now (s .entry)) end (nameAt (now (strings .entry)) (b .from) (b .limit)) first)) 9 0
+        ⌝ }
+{
+    if given(s, end, first, t, strings, b, place) {
+        Refusal::Repeated
+    } else {
+        Refusal::None
+    }
+}
+
 // The refusal of the name at an offset of the strings block, of a property at `t` whose node's or block's properties begin at
 // `first`: 7, then 9.
 pub fn name_refusal(
@@ -117,9 +173,42 @@ pub fn name_refusal(
     let place = name_place(b, offset);
     let read = names::property_name(strings, place, limit);
     match read {
-        NameRead::Good(_) => {
-            if given(s, end, first, t, strings, b, place) {
-                Refusal::Repeated
+        NameRead::Good(_) => repetition(s, end, first, t, strings, b, place),
+        NameRead::Bad => Refusal::Name,
+    }
+}
+
+// The same, where `marks` has the marks of the earlier names: 9 is looked for only if the name's mark is set, and the mark is set then.
+// At most 63 bytes of the name are read; a look-back reads a token for each earlier property.
+pub fn marked_refusal(
+    s: &[u8],
+    end: usize,
+    first: usize,
+    t: usize,
+    strings: &[u8],
+    b: StringsBlock,
+    offset: usize,
+    marks: &mut [u8],
+) -> Refusal
+    ensures { λ r.
+        ⌜
+        numberOf r
+        ≡ nameFault (nameAt (now (strings .entry)) (b .from) (b .limit) offset)
+        (both (isSet (now (marks .entry)) (markOf (nameAt (now (strings .entry)) (b .from) (b .limit) offset)))
+        (givenBefore t (nameAt (now (strings .entry)) (b .from) (b .limit) offset)
+        (tokens (now (s .entry)) end (nameAt (now (strings .entry)) (b .from) (b .limit)) first)))
+        ⌝ }
+    ensures { λ r.
+        ⌜ now (marks .exit) ≡ withMark (nameAt (now (strings .entry)) (b .from) (b .limit) offset) (now (marks .entry)) ⌝ }
+{
+    let limit = b.limit;
+    let place = name_place(b, offset);
+    let read = names::property_name(strings, place, limit);
+    match read {
+        NameRead::Good(length) => {
+            let past = place + length;
+            if set_mark(marks, mark_of(&strings[place..past])) {
+                repetition(s, end, first, t, strings, b, place)
             } else {
                 Refusal::None
             }

@@ -18,6 +18,7 @@ pub const HIGHEST_BIT: u32 = 63;
 
 // A feature: its begin token's offset, which properties were given, the cells of its properties, zero where absent, and how many
 // dependencies it has.
+#[repr(C)]
 pub struct Feature {
     pub offset: u32,
     pub given: u32,
@@ -33,6 +34,7 @@ pub struct Feature {
 }
 
 // Document 01: "a record of at most 64 features with its count"; the dependencies of the feature at a position are in its sixteen slots.
+#[repr(C)]
 pub struct Record {
     pub isa: u32,
     pub count: u32,

@@ -9,8 +9,8 @@ use lib.Dec.{ltb}
 use lib.ListN.{length, length-append, set}
 use lib.Pow.{pow-add}
 use native.Mathlib.Decide.{decLt}
-use Rattle.characters.specs.Characters.{hexDigit as hexDigitOf}
-use Rattle.characters.proofs.Table.{run, agree}
+use Rattle.characters.specs.Characters.{run, hexDigit as hexDigitOf}
+use Rattle.characters.proofs.Table.{agree}
 use Rattle.cells.specs.Buffer.{written}
 use Rattle.cells.proofs.Buffer.{written-none, written-before, length-written}
 use Rattle.unit.specs.Hex.{hexDigit, digitsOf, hexText, digitCount, afterHex}

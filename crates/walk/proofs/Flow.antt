@@ -20,15 +20,18 @@ use Rattle.tokens.specs.Steps.{pick, padded, stepAt}
 use Rattle.tokens.specs.Tokens.{Token, beginNode, endNode, property, nop, end, fault, afterName}
 use Rattle.tokens.proofs.TokenList.{tokens-step, property-moves, nop-moves, end-node-moves, begin-moves}
 use Rattle.properties.specs.Properties.{among, givenBefore, nameFault}
-use Rattle.properties.proofs.LookBack.{propertyNames, Plain, plain-on, names-snoc, names-nop, among-before}
+use Rattle.properties.specs.Marks.{markOf, isSet, withMark}
+use Rattle.properties.proofs.LookBack.{propertyNames, Plain, plain-on, names-snoc, names-nop, among-given, among-before}
+use Rattle.properties.proofs.MarkLaws.{other-name, not-among}
 use Rattle.walk.specs.Walk.{State, inProperties, inChildren, Verdict, refused, goOn, stop, parentOf, mostLevels, step, walk, nameIn, treeTokens}
 use Rattle.walk.specs.declared.Containers.{Containers}
 use Rattle.walk.specs.declared.NodeRead.{NodeRead}
 use Rattle.walk.specs.declared.NodeRead.the-variants.{Past, Stop}
 use Rattle.refusal.specs.Refusal.{numberOf}
 use Rattle.refusal.specs.declared.Refusal.{Refusal}
-use Rattle.walk.specs.Parts.{Part, skip, child, close, stopAt, orSkip, propertyPart, childPart, partAt, note, notes, Passed, Reads}
+use Rattle.walk.specs.Parts.{Part, skip, child, close, stopAt, orSkip, propertyPart, childPart, partAt, Marked, marksAt, note, notes, Passed, Reads}
 use Rattle.walk.proofs.Fold.{walk-on, walk-stop}
+use Rattle.walk.proofs.PartLaws.{marks-nop, marks-property}
 
 -- what stands next in a node, with what the bytes say of it
 pub data PartIs (s : List ℕ) (b : Blocks) (first at : ℕ) (early : Bool) : Part → Type 0 where
@@ -95,21 +98,23 @@ abbrev pub stateIn : Bool → ℕ → List Token → State
 stateIn true level read = inProperties level (propertyNames read)
 stateIn false level read = inChildren level
 
--- inside a node of a level whose contents begin at `from`: the tokens read, and that those from `at` on decide
-pub record Inside (s : List ℕ) (b : Blocks) (level from : ℕ) (seen : Containers) (at : ℕ) (early : Bool) (found : Containers) : Type 0 where
+-- inside a node of a level whose contents begin at `from`: the tokens read, and that those from `at` on decide; a name whose mark is not
+-- set is none of those read
+pub record Inside (s : List ℕ) (b : Blocks) (level from : ℕ) (seen : Containers) (at : ℕ) (early : Bool) (found : Containers) (marks : List ℕ) : Type 0 where
   pub read : List Token
   pub split : treeTokens s b from ≡ read ++ treeTokens s b at
   pub noted : found ≡ notes seen read
   pub forward : from ≤ at
   pub plain : early ≡ true → Plain at read
+  pub marked : early ≡ true → (n : Text) → isSet marks (markOf n) ≡ false → among n (propertyNames read) ≡ false
   pub same : walk (b .end) (stateIn early level read) (treeTokens s b at) ≡ walk (b .end) (inProperties level []) (treeTokens s b from)
 
-pub inside-begins : (s : List ℕ) (b : Blocks) (level from : ℕ) (seen : Containers) → Inside s b level from seen from true seen
-unfolding notes propertyNames
-inside-begins s b level from seen = record { read = []; split = refl; noted = refl; forward = omega arith; plain = λ _. tt; same = refl }
+pub inside-begins : (s : List ℕ) (b : Blocks) (level from : ℕ) (seen : Containers) (marks : List ℕ) → Inside s b level from seen from true seen marks
+unfolding notes propertyNames among
+inside-begins s b level from seen marks = record { read = []; split = refl; noted = refl; forward = omega arith; plain = λ _. tt; marked = λ _ n h. refl; same = refl }
 
 -- one token more
-module _ {s : List ℕ} {b : Blocks} {level from : ℕ} {seen : Containers} {at : ℕ} {early : Bool} {found : Containers} (g : Inside s b level from seen at early found) where
+module _ {s : List ℕ} {b : Blocks} {level from : ℕ} {seen : Containers} {at : ℕ} {early : Bool} {found : Containers} {marks : List ℕ} (g : Inside s b level from seen at early found marks) where
   abbrev T : ℕ → List Token
   T = treeTokens s b
 
@@ -131,8 +136,8 @@ state-nop false level read t = refl
 not-true : false ≡ true → ⊥
 not-true e = let z : _≡_ {A = ℕ} 0 1 = cc in omega arith
 
-module _ {s : List ℕ} {b : Blocks} {level from : ℕ} {seen : Containers} {at : ℕ} where
-  inside-nop : {early : Bool} {found : Containers} → Inside s b level from seen at early found → {t : ℕ} {c : Cursor} → stepAt s (b .end) at ≡ Nop t c → Inside s b level from seen (c .at) early found
+module _ {s : List ℕ} {b : Blocks} {level from : ℕ} {seen : Containers} {at : ℕ} {marks : List ℕ} where
+  inside-nop : {early : Bool} {found : Containers} → Inside s b level from seen at early found marks → {t : ℕ} {c : Cursor} → stepAt s (b .end) at ≡ Nop t c → Inside s b level from seen (c .at) early found marks
   unfolding step notes
   inside-nop {early} {found} g {t} {c} e =
       let m = nop-moves s (b .end) at e in
@@ -143,16 +148,20 @@ module _ {s : List ℕ} {b : Blocks} {level from : ℕ} {seen : Containers} {at 
         noted = g .noted ∙ sym (notes-append seen (g .read) (nop t ∷ []));
         forward = omega (arith, g .forward, m .on);
         plain = λ k. plain-on at (c .at) (g .read) (nop t ∷ []) (omega (arith, m .on)) (g .plain k) (omega (arith, m .here, m .on), tt);
+        marked = λ k n u. rw names-nop (g .marked k n u);
         same = ap (λ (q : State). walk (b .end) q (treeTokens s b (c .at))) (state-nop early level (g .read) t) ∙ go-on g (nop t) (treeTokens s b (c .at)) h refl;
       }
 
-  -- the names before a property are those looked back at
-  among-read : {found : Containers} (g : Inside s b level from seen at true found) {t v l o : ℕ} {c : Cursor} → stepAt s (b .end) at ≡ Property t v l o c
+  -- the names before a place, and before a property, are those looked back at
+  pub inside-marked : {early : Bool} {found : Containers} → Inside s b level from seen at early found marks → early ≡ true → Marked s b from at marks
+  inside-marked g k n u = among-given s (b .end) (nameIn s b) from at n (g .read) (g .split) (g .plain k) ∙ g .marked k n u
+
+  among-read : {found : Containers} (g : Inside s b level from seen at true found marks) {t v l o : ℕ} {c : Cursor} → stepAt s (b .end) at ≡ Property t v l o c
       → givenBefore t (nameIn s b o) (treeTokens s b from) ≡ among (nameIn s b o) (propertyNames (g .read))
   among-read g {o = o} e = among-before s (b .end) (nameIn s b) from at (nameIn s b o) (g .read) (g .split) (g .plain refl) e
 
-  inside-property : {found : Containers} → Inside s b level from seen at true found → {t v l o : ℕ} {c : Cursor} → stepAt s (b .end) at ≡ Property t v l o c
-      → isPropertyName (nameIn s b o) ≡ true → givenBefore t (nameIn s b o) (treeTokens s b from) ≡ false → Inside s b level from seen (c .at) true found
+  inside-property : {found : Containers} → Inside s b level from seen at true found marks → {t v l o : ℕ} {c : Cursor} → stepAt s (b .end) at ≡ Property t v l o c
+      → isPropertyName (nameIn s b o) ≡ true → givenBefore t (nameIn s b o) (treeTokens s b from) ≡ false → Inside s b level from seen (c .at) true found (withMark (nameIn s b o) marks)
   unfolding step notes
   inside-property {found} g {t} {v} {l} {o} {c} e p q =
       let m = property-moves s (b .end) at e in
@@ -166,17 +175,22 @@ module _ {s : List ℕ} {b : Blocks} {level from : ℕ} {seen : Containers} {at 
         noted = g .noted ∙ sym (notes-append seen (g .read) (property t n w ∷ []));
         forward = omega (arith, g .forward, m .on);
         plain = λ k. plain-on at (c .at) (g .read) (property t n w ∷ []) (omega (arith, m .on)) (g .plain k) (omega (arith, m .here, m .on), tt);
+        marked = λ k x u.
+            let o = other-name marks n x p u in
+            rw names-snoc (not-among x n (propertyNames (g .read)) (g .marked k x (o .0)) (o .1));
         same =
             ap (λ (ns : List Text). walk (b .end) (inProperties level ns) (treeTokens s b (c .at))) (names-snoc (g .read) t n w)
             ∙ go-on g (property t n w) (treeTokens s b (c .at)) h (rw (p, a));
       }
 
   -- the walk goes on past a NOP or a good property
-  pub inside-skip : {early : Bool} {found : Containers} → Inside s b level from seen at early found → {next : ℕ} → PartIs s b from at early (skip next)
-      → Inside s b level from seen next early found
-  inside-skip g (nops e) = inside-nop g e
-  inside-skip {early = true} g (takes e k p q) = inside-property g e p q
-  inside-skip {early = false} g (takes e k p q) = absurd (not-true k)
+  pub inside-skip : {early : Bool} {found : Containers} → Inside s b level from seen at early found marks → {next : ℕ} → PartIs s b from at early (skip next)
+      → {later : List ℕ} → later ≡ marksAt s b at early marks → Inside s b level from seen next early found later
+  inside-skip {early} {found} g (nops {t} {c} e) m =
+      subst (Inside s b level from seen (c .at) early found) (marks-nop s b at early marks e ∙ sym m) (inside-nop g e)
+  inside-skip {early = true} {found} g (takes {t} {v} {l} {o} {c} e k p q) m =
+      subst (Inside s b level from seen (c .at) true found) (marks-property s b at true marks e refl ∙ sym m) (inside-property g e p q)
+  inside-skip {early = false} g (takes e k p q) m = absurd (not-true k)
 
 pub skip-moves : {s : List ℕ} {b : Blocks} {first at : ℕ} {early : Bool} {next : ℕ} → PartIs s b first at early (skip next) → (at + 4 ≤ b .end) × (at + 4 ≤ next)
 skip-moves {s} {b} {first} {at} (nops e) = let m = nop-moves s (b .end) at e in (m .room, m .on)
@@ -203,8 +217,8 @@ unfolding step
 misplaced-fault true e level t read = refl
 misplaced-fault false e level t read = refl
 
-module _ {s : List ℕ} {b : Blocks} {level from : ℕ} {seen : Containers} {at : ℕ} where
-  pub inside-close : {early : Bool} {found : Containers} → Inside s b level from seen at early found → {next : ℕ} → PartIs s b from at early (close next)
+module _ {s : List ℕ} {b : Blocks} {level from : ℕ} {seen : Containers} {at : ℕ} {marks : List ℕ} where
+  pub inside-close : {early : Bool} {found : Containers} → Inside s b level from seen at early found marks → {next : ℕ} → PartIs s b from at early (close next)
       → (from ≤ next) × Passed s b (inProperties level []) from seen (parentOf level) next found
   unfolding notes
   inside-close {early} {found} g (closes {t} {c} e) =
@@ -219,7 +233,7 @@ module _ {s : List ℕ} {b : Blocks} {level from : ℕ} {seen : Containers} {at 
         },
       )
 
-  pub inside-stop : {early : Bool} {found : Containers} → Inside s b level from seen at early found → {n p : ℕ} → PartIs s b from at early (stopAt n p)
+  pub inside-stop : {early : Bool} {found : Containers} → Inside s b level from seen at early found marks → {n p : ℕ} → PartIs s b from at early (stopAt n p)
       → walk (b .end) (inProperties level []) (treeTokens s b from) ≡ refused n p
   unfolding step
   inside-stop {early} g (badChild {t} {c} e k) =
@@ -265,7 +279,7 @@ module _ (s : List ℕ) (b : Blocks) (at : ℕ) {t n : ℕ} {c : Cursor} (e : st
   child-name : take n (drop (c .at) s) ≡ k .characters
   child-name = ap (λ (m : ℕ). take m (drop (c .at) s)) (sym (k .long)) ∙ text-taken s (c .at) (b .end) (k .characters) (k .text)
 
-module _ {s : List ℕ} {b : Blocks} {level from : ℕ} {seen : Containers} {at : ℕ} {early : Bool} {found : Containers} (g : Inside s b level from seen at early found) where
+module _ {s : List ℕ} {b : Blocks} {level from : ℕ} {seen : Containers} {at : ℕ} {early : Bool} {found : Containers} {marks : List ℕ} (g : Inside s b level from seen at early found marks) where
   pub inside-deep : {t name n next : ℕ} → PartIs s b from at early (child t name n next) → mostLevels ≤ level → walk (b .end) (inProperties level []) (treeTokens s b from) ≡ refused 8 t
   inside-deep (enters {t} {n} {c} e k) h =
       stop-here g (beginNode t (ended (k .characters))) _ (child-tokens s b at e k) (deep-step early (b .end) level t (g .read) (ended (k .characters)) (k .right) h)
@@ -276,9 +290,9 @@ module _ {s : List ℕ} {b : Blocks} {level from : ℕ} {seen : Containers} {at 
       sym (go-on g (beginNode t (ended (k .characters))) _ (child-tokens s b at e k) (child-step early (b .end) level t (g .read) (ended (k .characters)) (k .right) h)) ∙ w
 
   pub inside-child : {t name n next : ℕ} → PartIs s b from at early (child t name n next) → level < mostLevels → 1 ≤ level → {now more : Containers} → now ≡ note found t (take n (drop name s))
-      → {last : ℕ} → next ≤ last → Passed s b (inProperties (level + 1) []) next now (parentOf (level + 1)) last more → Inside s b level from seen last false more
+      → {last : ℕ} → next ≤ last → Passed s b (inProperties (level + 1) []) next now (parentOf (level + 1)) last more → (later : List ℕ) → Inside s b level from seen last false more later
   unfolding notes
-  inside-child (enters {t} {n} {c} e k) h l {now} {more = deeper} w {last} f inner =
+  inside-child (enters {t} {n} {c} e k) h l {now} {more = deeper} w {last} f inner later =
       let m = begin-moves s (b .end) at e in
       let u = beginNode t (ended (k .characters)) in
       let x = child-tokens s b at e k in
@@ -292,6 +306,7 @@ module _ {s : List ℕ} {b : Blocks} {level from : ℕ} {seen : Containers} {at 
             ∙ sym (notes-append seen (g .read ++ u ∷ []) (inner .read));
         forward = omega (arith, g .forward, m .on);
         plain = λ z. absurd (not-true z);
+        marked = λ z. absurd (not-true z);
         same =
             ap (λ (q : State). walk (b .end) q (treeTokens s b last)) (sym (parent-of level l))
             ∙ sym (inner .same)

@@ -1,11 +1,11 @@
 -- What the parts of the walk's code answer. The promise of `check_tree` rests on `Checked`, not on this file.
 use Prim.Native.Nat.{ℕ, zero, suc, _+_, _*_, _/_, _≤_}
 use mathlib.Core.Path.{_≡_}
-use mathlib.Core.Bool.{Bool}
+use mathlib.Core.Bool.{Bool, false}
 use mathlib.Core.List.{List, [], _∷_, _++_}
 use lib.Dec.{eqb}
 use lib.ListN.{length}
-use Rattle.cells.specs.Strings.{ended, unended, sameBytes}
+use Rattle.cells.specs.Strings.{Text, ended, unended, sameBytes}
 use Rattle.names.specs.Names.{nodeNameAt}
 use Rattle.names.specs.declared.NameRead.the-variants.{Good, Bad}
 use Rattle.refusal.specs.Refusal.{numberOf, Placed, placed, refuseAt, fault as refusedAt}
@@ -14,6 +14,7 @@ use Rattle.tokens.specs.declared.Step.the-variants.{BeginNode, EndNode, Propert
 use Rattle.tokens.specs.Steps.{pick, stepAt}
 use Rattle.tokens.specs.Tokens.{Token, beginNode, endNode, property, nop, end, fault}
 use Rattle.properties.specs.Properties.{givenBefore, nameFault}
+use Rattle.properties.specs.Marks.{markOf, isSet, withMark}
 use Rattle.walk.specs.Walk.{Verdict, accepted, refused, State, afterRoot, walk, nameIn, treeTokens}
 use Rattle.walk.specs.Containers.{containerName}
 use Rattle.walk.specs.declared.Containers.{Containers}
@@ -61,6 +62,22 @@ partAt s b first at early =
       | Nop t next ↦ skip (next .at)
       | End t ↦ stopAt 6 t
       | NoToken t ↦ stopAt 6 t
+    ]
+
+-- the marks of a node's properties before a place: a name whose mark is not set has not been given there
+abbrev pub Marked : List ℕ → Blocks → ℕ → ℕ → List ℕ → Type 0
+Marked s b first at marks = (n : Text) → isSet marks (markOf n) ≡ false → givenBefore at n (treeTokens s b first) ≡ false
+
+-- the marks once what stands at a place has been read
+unfoldable pub marksAt : List ℕ → Blocks → ℕ → Bool → List ℕ → List ℕ
+marksAt s b at early marks =
+    elim (stepAt s (b .end) at) [
+      | BeginNode t name ↦ marks
+      | EndNode t next ↦ marks
+      | Property t value size name next ↦ pick early (withMark (nameIn s b name) marks) marks
+      | Nop t next ↦ marks
+      | End t ↦ marks
+      | NoToken t ↦ marks
     ]
 
 abbrev pub none : Containers

@@ -11,6 +11,7 @@ ghost use Prim.Native.Nat.{_+_, _-_, _<_, _≤_};
 ghost use lib.ListN.{length as length-of, take, drop};
 ghost use mathlib.Core.List.{[]};
 ghost use Rattle.refusal.specs.Refusal.{numberOf, fault, refuseAt};
+ghost use Rattle.properties.specs.Marks.{withMark};
 ghost use Rattle.walk.specs.Walk.{
   beforeRoot,
   inProperties,
@@ -24,7 +25,7 @@ ghost use Rattle.walk.specs.Walk.{
   refused,
 };
 ghost use Rattle.walk.specs.Checked.{noLayout, judge, checkTree, checkedOutcome};
-ghost use Rattle.walk.specs.Parts.{partOf, stopAt, propertyPart, childPart, partAt, none, note, Reads, Ends, Closes};
+ghost use Rattle.walk.specs.Parts.{partOf, stopAt, propertyPart, childPart, partAt, Marked, marksAt, none, note, Reads, Ends, Closes};
 
 // The most levels of nodes, the root's among them.
 pub const MOST_LEVELS: usize = 16;
@@ -70,7 +71,7 @@ enum NodeRead {
     Stop { refusal: Refusal, at: usize },
 }
 
-// A property at `t` of a node whose contents begin at `first`.
+// A property at `t` of a node whose contents begin at `first`; `marks` has the marks of the names before it, and then its own.
 fn property_item(
     tree: &[u8],
     b: Blocks,
@@ -78,14 +79,20 @@ fn property_item(
     t: usize,
     offset: usize,
     next: Cursor,
+    marks: &mut [u8],
 ) -> Item
-    ensures { λ r. ⌜ partOf r ≡ propertyPart (now (tree .entry)) b first t offset (next .at) ⌝ }
+    requires { ⌜ Marked (now tree) b first t (now marks) ⌝ }
+    ensures { λ r.
+        ⌜
+        (partOf r ≡ propertyPart (now (tree .entry)) b first t offset (next .at))
+        × (now (marks .exit) ≡ withMark (nameIn (now (tree .entry)) b offset) (now (marks .entry)))
+        ⌝ }
 {
     let strings = StringsBlock {
         from: b.strings,
         limit: b.limit,
     };
-    let refusal = properties::name_refusal(tree, b.end, first, t, tree, strings, offset);
+    let refusal = properties::marked_refusal(tree, b.end, first, t, tree, strings, offset, marks);
     if refusal::number(refusal) != 0 {
         return Item::Fault { refusal, at: t };
     }
@@ -132,9 +139,15 @@ fn misplaced(at: usize) -> Item
     }
 }
 
-// What stands at a place in a node whose contents begin at `first`; `early` while no child node has come.
-fn item_at(tree: &[u8], b: Blocks, first: usize, at: usize, early: bool) -> Item
-    ensures { λ r. ⌜ partOf r ≡ partAt (now (tree .entry)) b first at early ⌝ }
+// What stands at a place in a node whose contents begin at `first`; `early` while no child node has come, and `marks` has the marks
+// of the names of its properties.
+fn item_at(tree: &[u8], b: Blocks, first: usize, at: usize, early: bool, marks: &mut [u8]) -> Item
+    requires { ⌜ (early ≡ true → Marked (now tree) b first at (now marks)) ⌝ }
+    ensures { λ r.
+        ⌜
+        (partOf r ≡ partAt (now (tree .entry)) b first at early)
+        × (now (marks .exit) ≡ marksAt (now (tree .entry)) b at early (now (marks .entry)))
+        ⌝ }
 {
     let end = b.end;
     let c = Cursor { at };
@@ -150,7 +163,7 @@ fn item_at(tree: &[u8], b: Blocks, first: usize, at: usize, early: bool) -> Item
             next,
         } => {
             if early {
-                property_item(tree, b, first, t, name, next)
+                property_item(tree, b, first, t, name, next, marks)
             } else {
                 misplaced(t)
             }
@@ -193,11 +206,12 @@ fn contents(tree: &[u8], b: Blocks, from: usize, levels: usize, seen: Containers
     requires { ⌜ levels < mostLevels ⌝ }
     ensures { λ r. ⌜ Reads (now (tree .entry)) b (inProperties (mostLevels - levels) []) from seen (parentOf (mostLevels - levels)) r ⌝ }
 {
+    let mut marks = [0u8; properties::MARKS];
     let mut at = from;
     let mut early = true;
     let mut found = seen;
     loop {
-        let item = item_at(tree, b, from, at, early);
+        let item = item_at(tree, b, from, at, early, &mut marks);
         match item {
             Item::Skip(next) => {
                 at = next.at;
@@ -209,10 +223,8 @@ fn contents(tree: &[u8], b: Blocks, from: usize, levels: usize, seen: Containers
                 next,
             } => {
                 if levels == 0 {
-                    return NodeRead::Stop {
-                        refusal: Refusal::TooMany,
-                        at: t,
-                    };
+                    let refusal = Refusal::TooMany;
+                    return NodeRead::Stop { refusal, at: t };
                 }
                 let now = noted(found, tree, t, name, length);
                 let inner = contents(tree, b, next.at, levels - 1, now);

@@ -14,24 +14,19 @@ property-name-requires c κs = search needs
 enum-told : tie.Need-enum-told
 enum-told c = search needs
 
-given-requires : tie.Need-given-requires
-given-requires c κs = search needs
+repetition-requires : tie.Need-repetition-requires
+repetition-requires c κs = search needs
 
 enum-told-2 : tie.Need-enum-told-2
 enum-told-2 c = search needs
 
 returns : tie.Need-returns
 returns c =
-    let e = sym (c .before .before .before .before .property-name .ensures) ∙ c .before .before .enum-told .given .1 in
-    name-given _ _ _ _ (c .before .before .before .before .before .name-place .ensures) _ _ e (c .before .given .ensures) (c .if1 .taken)
+    let e = sym (c .before .before .before .property-name .ensures) ∙ c .before .enum-told .given .1 in
+    name-given _ _ _ _ (c .before .before .before .before .name-place .ensures) _ _ e (c .repetition .ensures)
 
 returns-2 : tie.Need-returns-2
 returns-2 c =
-    let e = sym (c .before .before .before .before .property-name .ensures) ∙ c .before .before .enum-told .given .1 in
-    name-given _ _ _ _ (c .before .before .before .before .before .name-place .ensures) _ _ e (c .before .given .ensures) (c .if1 .left)
-
-returns-3 : tie.Need-returns-3
-returns-3 c =
     let e = sym (c .before .before .property-name .ensures) ∙ c .enum-told2 .given .1 in
     bad-fault _ _ _ _ (c .before .before .before .name-place .ensures) _ e
 
@@ -42,8 +37,7 @@ name-refusal-spec =
     name-place-requires
     property-name-requires
     enum-told
-    given-requires
+    repetition-requires
     enum-told-2
     returns
-    returns-2
-    returns-3)
+    returns-2)

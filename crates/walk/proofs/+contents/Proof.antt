@@ -1,11 +1,14 @@
 -- `walk::contents`, which calls itself for each child, meets its contract. The loop's invariant is `Inside`; the levels left fall by one
 -- at each call. Assumes nothing.
 use borrow.Author.Needs.{needs}
-use mathlib.Core.Path.{sym, ap, _∙_}
+use mathlib.Core.Path.{_≡_, refl, sym, ap, _∙_}
+use lib.ListN.{length}
 use native.Mathlib.Omega.{arith}
+use Rattle.properties.specs.Marks.{markCount}
 use Rattle.walk.specs.Walk.{mostLevels}
 use Rattle.walk.specs.Parts.{partOf}
-use Rattle.walk.proofs.Flow.{Inside, part-is, inside-begins, inside-skip, skip-moves, inside-close, inside-stop, inside-deep, inside-child, inside-child-stops, child-moves, inner-past, inner-stops}
+use Rattle.walk.proofs.PartLaws.{marks-long}
+use Rattle.walk.proofs.Flow.{Inside, part-is, inside-begins, inside-marked, inside-skip, skip-moves, inside-close, inside-stop, inside-deep, inside-child, inside-child-stops, child-moves, inner-past, inner-stops}
 use Prim.Native.Nat.{ℕ, _-_, _<_}
 use borrow.Fn.Kinds.{In}
 use borrow.Fn.PlainCycle.{Measures, is, falls, and}
@@ -28,11 +31,11 @@ contents-below t =
     and 1 contents-kinds.ps (falls 1 contents-kinds.ps _<_ μ-contents t) contents.Pre
 
 abbrev contents-Inv-loop : contents-lts.InvT-loop
-contents-Inv-loop tree b from levels at₀ early₀ found₀ at early found =
-    (levels < mostLevels) × Inside tree b (mostLevels - levels) from found₀ at early found
+contents-Inv-loop tree b from levels marks₀ at₀ early₀ found₀ marks at early found =
+    (levels < mostLevels) × (markCount ≡ length marks) × Inside tree b (mostLevels - levels) from found₀ at early found marks
 
 abbrev contents-μ-loop : contents-lts.MeasureT-loop
-contents-μ-loop tree b from levels at₀ early₀ found₀ at early found = b .end - at
+contents-μ-loop tree b from levels marks₀ at₀ early₀ found₀ marks at early found = b .end - at
 
 contents-loop-holds : (t : ℕ) → contents-lts.Need-loop-holds (
   item-at-reads.Asked,
@@ -42,7 +45,17 @@ contents-loop-holds : (t : ℕ) → contents-lts.Need-loop-holds (
   contents-below t,
   contents.Post,
 ) (contents-at t) contents.Post contents-Inv-loop contents-μ-loop
-contents-loop-holds t c = (c .before .pre .1, inside-begins _ _ _ _ _)
+contents-loop-holds t c = (c .before .pre .1, refl, inside-begins _ _ _ _ _ _)
+
+contents-slice-aggregate-item-at : (t : ℕ) → contents-lts.Need-slice-aggregate-item-at (
+  item-at-reads.Asked,
+  item-at-reads.Learnt,
+  noted-reads.Asked,
+  noted-reads.Learnt,
+  contents-below t,
+  contents.Post,
+) (contents-at t) contents.Post contents-Inv-loop contents-μ-loop
+contents-slice-aggregate-item-at t c = c .before .loop .inv .1
 
 contents-item-at-requires : (t : ℕ) → contents-lts.Need-item-at-requires (
   item-at-reads.Asked,
@@ -52,7 +65,7 @@ contents-item-at-requires : (t : ℕ) → contents-lts.Need-item-at-requires (
   contents-below t,
   contents.Post,
 ) (contents-at t) contents.Post contents-Inv-loop contents-μ-loop
-contents-item-at-requires t c κs = search needs
+contents-item-at-requires t c κs = inside-marked (c .before .loop .inv .2)
 
 contents-enum-known-item : (t : ℕ) → contents-lts.Need-enum-known-item (
   item-at-reads.Asked,
@@ -72,7 +85,7 @@ contents-loop-less : (t : ℕ) → contents-lts.Need-loop-less (
   contents-below t,
   contents.Post,
 ) (contents-at t) contents.Post contents-Inv-loop contents-μ-loop
-contents-loop-less t c = let m = skip-moves (part-is _ _ _ _ _ (sym (c .before .before .before .item-at .ensures) ∙ ap partOf (c .before .item .given .1))) in omega arith
+contents-loop-less t c = let m = skip-moves (part-is _ _ _ _ _ (sym (c .before .before .before .before .item-at .ensures .0) ∙ ap partOf (c .before .item .given .1))) in omega arith
 
 contents-loop-again : (t : ℕ) → contents-lts.Need-loop-again (
   item-at-reads.Asked,
@@ -82,7 +95,7 @@ contents-loop-again : (t : ℕ) → contents-lts.Need-loop-again (
   contents-below t,
   contents.Post,
 ) (contents-at t) contents.Post contents-Inv-loop contents-μ-loop
-contents-loop-again t c = let l = c .before .before .before .before .loop .inv in (l .0, inside-skip (l .1) (part-is _ _ _ _ _ (sym (c .before .before .before .item-at .ensures) ∙ ap partOf (c .before .item .given .1))))
+contents-loop-again t c = let l = c .before .before .before .before .before .before .loop .inv in (l .0, marks-long _ _ _ _ _ (c .before .before .before .before .item-at .ensures .1) (l .1), inside-skip (l .2) (part-is _ _ _ _ _ (sym (c .before .before .before .before .item-at .ensures .0) ∙ ap partOf (c .before .item .given .1))) (c .before .before .before .before .item-at .ensures .1))
 
 contents-enum-known-item-2 : (t : ℕ) → contents-lts.Need-enum-known-item-2 (
   item-at-reads.Asked,
@@ -102,7 +115,7 @@ contents-returns : (t : ℕ) → contents-lts.Need-returns (
   contents-below t,
   contents.Post,
 ) (contents-at t) contents.Post contents-Inv-loop contents-μ-loop
-contents-returns t c = let l = c .before .before .before .before .before .loop .inv in inside-deep (l .1) (part-is _ _ _ _ _ (sym (c .before .before .before .before .item-at .ensures) ∙ ap partOf (c .before .before .item2 .given .1))) (omega (arith, c .if1 .taken))
+contents-returns t c = let l = c .before .before .before .before .before .before .before .loop .inv in inside-deep (l .2) (part-is _ _ _ _ _ (sym (c .before .before .before .before .before .item-at .ensures .0) ∙ ap partOf (c .before .before .item2 .given .1))) (omega (arith, c .if1 .taken))
 
 contents-noted-requires : (t : ℕ) → contents-lts.Need-noted-requires (
   item-at-reads.Asked,
@@ -112,7 +125,7 @@ contents-noted-requires : (t : ℕ) → contents-lts.Need-noted-requires (
   contents-below t,
   contents.Post,
 ) (contents-at t) contents.Post contents-Inv-loop contents-μ-loop
-contents-noted-requires t c κs = let m = child-moves (part-is _ _ _ _ _ (sym (c .before .before .before .before .item-at .ensures) ∙ ap partOf (c .before .before .item2 .given .1))) in m .2
+contents-noted-requires t c κs = let m = child-moves (part-is _ _ _ _ _ (sym (c .before .before .before .before .before .item-at .ensures .0) ∙ ap partOf (c .before .before .item2 .given .1))) in m .2
 
 contents-sub-contents : (t : ℕ) → contents-lts.Need-sub-contents (
   item-at-reads.Asked,
@@ -132,7 +145,7 @@ contents-contents-requires : (t : ℕ) → contents-lts.Need-contents-requires (
   contents-below t,
   contents.Post,
 ) (contents-at t) contents.Post contents-Inv-loop contents-μ-loop
-contents-contents-requires t c κs = (omega (arith, c .before .before .before .before .before .before .before .before .pre .0), omega (arith, c .before .before .before .before .before .before .loop .inv .0))
+contents-contents-requires t c κs = (omega (arith, c .before .before .before .before .before .before .before .before .before .before .pre .0), omega (arith, c .before .before .before .before .before .before .before .before .loop .inv .0))
 
 contents-enum-known-inner : (t : ℕ) → contents-lts.Need-enum-known-inner (
   item-at-reads.Asked,
@@ -153,8 +166,8 @@ contents-loop-less-2 : (t : ℕ) → contents-lts.Need-loop-less-2 (
   contents.Post,
 ) (contents-at t) contents.Post contents-Inv-loop contents-μ-loop
 contents-loop-less-2 t c =
-    let l = c .before .before .before .before .before .before .before .before .before .before .loop .inv in
-    let m = child-moves (part-is _ _ _ _ _ (sym (c .before .before .before .before .before .before .before .before .before .item-at .ensures) ∙ ap partOf (c .before .before .before .before .before .before .before .item2 .given .1))) in
+    let l = c .before .before .before .before .before .before .before .before .before .before .before .before .loop .inv in
+    let m = child-moves (part-is _ _ _ _ _ (sym (c .before .before .before .before .before .before .before .before .before .before .item-at .ensures .0) ∙ ap partOf (c .before .before .before .before .before .before .before .item2 .given .1))) in
     let r = inner-past _ (omega (arith, c .before .before .before .before .before .if1 .left)) (l .0) _ _ _ _ (c .before .before .before .contents .ensures) (c .before .inner .given .1) in
     omega (arith, m .0, m .1, r .0)
 
@@ -167,10 +180,11 @@ contents-loop-again-2 : (t : ℕ) → contents-lts.Need-loop-again-2 (
   contents.Post,
 ) (contents-at t) contents.Post contents-Inv-loop contents-μ-loop
 contents-loop-again-2 t c =
-    let l = c .before .before .before .before .before .before .before .before .before .before .loop .inv in
+    let l = c .before .before .before .before .before .before .before .before .before .before .before .before .loop .inv in
     let r = inner-past _ (omega (arith, c .before .before .before .before .before .if1 .left)) (l .0) _ _ _ _ (c .before .before .before .contents .ensures) (c .before .inner .given .1) in (
       l .0,
-      inside-child (l .1) (part-is _ _ _ _ _ (sym (c .before .before .before .before .before .before .before .before .before .item-at .ensures) ∙ ap partOf (c .before .before .before .before .before .before .before .item2 .given .1))) (omega (arith, c .before .before .before .before .before .if1 .left)) (omega (arith, l .0)) (c .before .before .before .before .noted .ensures) (r .0) (r .1),
+      marks-long _ _ _ _ _ (c .before .before .before .before .before .before .before .before .before .before .item-at .ensures .1) (l .1),
+      inside-child (l .2) (part-is _ _ _ _ _ (sym (c .before .before .before .before .before .before .before .before .before .before .item-at .ensures .0) ∙ ap partOf (c .before .before .before .before .before .before .before .item2 .given .1))) (omega (arith, c .before .before .before .before .before .if1 .left)) (omega (arith, l .0)) (c .before .before .before .before .noted .ensures) (r .0) (r .1) _,
     )
 
 contents-enum-known-inner-2 : (t : ℕ) → contents-lts.Need-enum-known-inner-2 (
@@ -192,9 +206,9 @@ contents-returns-2 : (t : ℕ) → contents-lts.Need-returns-2 (
   contents.Post,
 ) (contents-at t) contents.Post contents-Inv-loop contents-μ-loop
 contents-returns-2 t c =
-    let l = c .before .before .before .before .before .before .before .before .before .before .loop .inv in
+    let l = c .before .before .before .before .before .before .before .before .before .before .before .before .loop .inv in
     let r = inner-stops _ (omega (arith, c .before .before .before .before .before .if1 .left)) (l .0) _ _ _ _ (c .before .before .before .contents .ensures) (c .before .inner2 .given .1) in
-    inside-child-stops (l .1) (part-is _ _ _ _ _ (sym (c .before .before .before .before .before .before .before .before .before .item-at .ensures) ∙ ap partOf (c .before .before .before .before .before .before .before .item2 .given .1))) (omega (arith, c .before .before .before .before .before .if1 .left)) r
+    inside-child-stops (l .2) (part-is _ _ _ _ _ (sym (c .before .before .before .before .before .before .before .before .before .before .item-at .ensures .0) ∙ ap partOf (c .before .before .before .before .before .before .before .item2 .given .1))) (omega (arith, c .before .before .before .before .before .if1 .left)) r
 
 contents-enum-known-item-3 : (t : ℕ) → contents-lts.Need-enum-known-item-3 (
   item-at-reads.Asked,
@@ -214,7 +228,7 @@ contents-returns-3 : (t : ℕ) → contents-lts.Need-returns-3 (
   contents-below t,
   contents.Post,
 ) (contents-at t) contents.Post contents-Inv-loop contents-μ-loop
-contents-returns-3 t c = let l = c .before .before .before .before .loop .inv in inside-close (l .1) (part-is _ _ _ _ _ (sym (c .before .before .before .item-at .ensures) ∙ ap partOf (c .before .item3 .given .1)))
+contents-returns-3 t c = let l = c .before .before .before .before .before .before .loop .inv in inside-close (l .2) (part-is _ _ _ _ _ (sym (c .before .before .before .before .item-at .ensures .0) ∙ ap partOf (c .before .item3 .given .1)))
 
 contents-enum-known-item-4 : (t : ℕ) → contents-lts.Need-enum-known-item-4 (
   item-at-reads.Asked,
@@ -234,7 +248,7 @@ contents-returns-4 : (t : ℕ) → contents-lts.Need-returns-4 (
   contents-below t,
   contents.Post,
 ) (contents-at t) contents.Post contents-Inv-loop contents-μ-loop
-contents-returns-4 t c = let l = c .before .before .before .before .loop .inv in inside-stop (l .1) (part-is _ _ _ _ _ (sym (c .before .before .before .item-at .ensures) ∙ ap partOf (c .before .item4 .given .1)))
+contents-returns-4 t c = let l = c .before .before .before .before .before .before .loop .inv in inside-stop (l .2) (part-is _ _ _ _ _ (sym (c .before .before .before .before .item-at .ensures .0) ∙ ap partOf (c .before .item4 .given .1)))
 
 pub +contents-spec : {M : Type 1} → statement M
 +contents-spec = close μ-contents λ t. contents-lts.spec (
@@ -250,6 +264,7 @@ pub +contents-spec : {M : Type 1} → statement M
     contents-Inv-loop
     contents-μ-loop
     (contents-loop-holds t)
+    (contents-slice-aggregate-item-at t)
     (contents-item-at-requires t)
     (contents-enum-known-item t)
     (contents-loop-less t)

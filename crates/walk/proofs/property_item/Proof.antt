@@ -4,17 +4,29 @@ use borrow.Author.Needs.{needs}
 use Rattle.walk.proofs.property_item.Statement.{statement}
 use Rattle.walk.proofs.property_item.Tie as tie
 
-name-refusal-requires : tie.Need-name-refusal-requires
-name-refusal-requires c κs = search needs
+marked-refusal-requires : tie.Need-marked-refusal-requires
+marked-refusal-requires c κs = search needs
 
 number-requires : tie.Need-number-requires
 number-requires c κs = search needs
 
+same-length : tie.Need-same-length
+same-length c = search needs
+
 returns : tie.Need-returns
-returns c = property-stops _ _ _ _ _ _ (c .before .number .ensures) (c .before .before .name-refusal .ensures) (c .if1 .taken)
+returns c =
+    let m = c .before .before .before .before .marked-refusal .ensures in
+    (property-stops _ _ _ _ _ _ _ (c .before .before .before .before .before .before .before .before .pre) (c .before .number .ensures) (m .0) (c .if1 .taken), m .1)
+
+same-length-2 : tie.Need-same-length-2
+same-length-2 c = search needs
 
 returns-2 : tie.Need-returns-2
-returns-2 c = property-skips _ _ _ _ _ _ (c .before .number .ensures) (c .before .before .name-refusal .ensures) (c .if1 .left)
+returns-2 c =
+    let m = c .before .before .before .before .marked-refusal .ensures in
+    (property-skips _ _ _ _ _ _ _ (c .before .before .before .before .before .before .before .before .pre) (c .before .number .ensures) (m .0) (c .if1 .left), m .1)
 
 pub property-item-spec : {M : Type 1} → statement M
-property-item-spec = tie.close (tie.spec name-refusal-requires number-requires returns returns-2)
+property-item-spec =
+    tie.close
+    (tie.spec marked-refusal-requires number-requires same-length returns same-length-2 returns-2)

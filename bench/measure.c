@@ -1,0 +1,259 @@
+/* Runs the library and the same in C on the same records, compares the answers, and prints medians in nanoseconds. */
+#include <stdio.h>
+#include <stdlib.h>
+#include <string.h>
+#include <time.h>
+
+#include "resolver.h"
+
+enum { RUNS = 401, NANOSECONDS_A_RUN = 40000 };
+
+struct graph {
+    const char *name;
+    struct record r;
+    struct rows table;
+    struct grants g;
+    uint32_t position;
+};
+
+static const uint32_t LEVEL = 0;
+
+/* Where the calls put their answers: what the library answers, and what C does. */
+static struct enabled enabled[2];
+static struct reach reach[2];
+static struct chain chain[2];
+static uint8_t bytes[2][MOST_FEATURES];
+static uint32_t form[2];
+
+/* Who answers: the library, C with a test of the record's form, C without one. */
+enum who { LIBRARY, TESTED, PLAIN };
+
+static void well_formed(const struct graph *t, enum who who)
+{
+    if (who == LIBRARY)
+        form[0] = yebkuzan_well_formed(t->r);
+    else
+        form[1] = c_well_formed(&t->r);
+}
+
+static void enable(const struct graph *t, enum who who)
+{
+    if (who == LIBRARY)
+        enabled[0] = yebkuzan_enable(t->r, LEVEL, t->g);
+    else
+        enabled[1] = c_enable(&t->r, LEVEL, &t->g, who == TESTED);
+}
+
+static void reach_table(const struct graph *t, enum who who)
+{
+    if (who == LIBRARY)
+        reach[0] = yebkuzan_reach_table(t->r);
+    else
+        reach[1] = c_reach_table(&t->r, who == TESTED);
+}
+
+static void by_table(const struct graph *t, enum who who)
+{
+    if (who == LIBRARY)
+        enabled[0] = yebkuzan_enable_by_table(t->r, t->table, LEVEL, t->g);
+    else
+        enabled[1] = c_enable_by_table(&t->r, &t->table, LEVEL, &t->g, who == TESTED);
+}
+
+static void chain_of(const struct graph *t, enum who who)
+{
+    if (who == LIBRARY)
+        chain[0] = yebkuzan_chain(t->r, LEVEL, t->g, t->position, bytes[0], MOST_FEATURES);
+    else
+        chain[1] = c_chain(&t->r, LEVEL, &t->g, t->position, bytes[1], MOST_FEATURES, who == TESTED);
+}
+
+struct call {
+    const char *name;
+    void (*run)(const struct graph *, enum who);
+    double goal;
+};
+
+static const struct call calls[] = {
+    { "enabled set", enable, 1.0 },
+    { "reach table", reach_table, 1.2 },
+    { "by the table", by_table, 1.2 },
+    { "chain", chain_of, 1.2 },
+    { "well formed", well_formed, 0 },
+};
+
+static void fail(const struct graph *t, const char *call)
+{
+    fprintf(stderr, "%s, %s: the answers differ\n", t->name, call);
+    exit(1);
+}
+
+/* Every answer of the library is that of C, for each level, each position and a short buffer. */
+static void compare(struct graph *t)
+{
+    reach_table(t, LIBRARY);
+    reach_table(t, TESTED);
+    if (reach[0].number != reach[1].number || memcmp(&reach[0].rows, &reach[1].rows, sizeof(struct rows)) != 0)
+        fail(t, "reach table");
+    t->table = reach[0].rows;
+    if (yebkuzan_well_formed(t->r) != c_well_formed(&t->r))
+        fail(t, "well formed");
+    for (uint32_t level = 0; level <= 3; level++) {
+        struct enabled e = yebkuzan_enable(t->r, level, t->g);
+        struct enabled b = yebkuzan_enable_by_table(t->r, t->table, level, t->g);
+        struct enabled c = c_enable(&t->r, level, &t->g, true);
+        struct enabled d = c_enable_by_table(&t->r, &t->table, level, &t->g, true);
+        if (memcmp(&e, &c, sizeof e) != 0 || memcmp(&b, &d, sizeof b) != 0 || memcmp(&e, &b, sizeof e) != 0)
+            fail(t, "enabled set");
+        for (uint32_t i = 0; i <= t->r.count; i++)
+            for (size_t size = 0; size <= MOST_FEATURES; size++) {
+                memset(bytes, 255, sizeof bytes);
+                struct chain x = yebkuzan_chain(t->r, level, t->g, i, bytes[0], size);
+                struct chain y = c_chain(&t->r, level, &t->g, i, bytes[1], size, true);
+                if (memcmp(&x, &y, sizeof x) != 0 || memcmp(bytes[0], bytes[1], MOST_FEATURES) != 0)
+                    fail(t, "chain");
+            }
+    }
+}
+
+static double now(void)
+{
+    struct timespec t;
+    clock_gettime(CLOCK_MONOTONIC, &t);
+    return t.tv_sec * 1e9 + t.tv_nsec;
+}
+
+static double run(const struct call *c, const struct graph *t, enum who who, long times)
+{
+    double start = now();
+    for (long k = 0; k < times; k++)
+        c->run(t, who);
+    return (now() - start) / times;
+}
+
+static int ascending(const void *a, const void *b)
+{
+    double x = *(const double *)a, y = *(const double *)b;
+    return (x > y) - (x < y);
+}
+
+static double median(double *values)
+{
+    qsort(values, RUNS, sizeof *values, ascending);
+    return values[RUNS / 2];
+}
+
+/* Many short runs of each, in turn, so that a slow spell of the machine meets all three: the medians, and those of the ratios of a turn. */
+static void measure(const struct graph *t, const struct call *c)
+{
+    double values[3][RUNS], tested[RUNS], plain[RUNS];
+    long times[3];
+
+    for (enum who who = LIBRARY; who <= PLAIN; who++)
+        times[who] = 1 + (long)(NANOSECONDS_A_RUN / run(c, t, who, 1000));
+    for (int k = 0; k < RUNS; k++) {
+        for (enum who who = LIBRARY; who <= PLAIN; who++)
+            values[who][k] = run(c, t, who, times[who]);
+        tested[k] = values[LIBRARY][k] / values[TESTED][k];
+        plain[k] = values[LIBRARY][k] / values[PLAIN][k];
+    }
+    printf("%-28s %-13s %8.0f %8.0f %8.0f %8.2f %8.2f", t->name, c->name, median(values[LIBRARY]), median(values[TESTED]),
+        median(values[PLAIN]), median(tested), median(plain));
+    if (c->goal != 0)
+        printf("   %.1f", c->goal);
+    printf("\n");
+}
+
+/* A record of n features with every property given; those of the set `without` are not usable by users. */
+static struct graph *start(const char *name, uint32_t n, uint64_t without, uint32_t position)
+{
+    struct graph *t = calloc(1, sizeof *t);
+    if (t == NULL)
+        exit(2);
+    t->name = name;
+    t->position = position;
+    t->g = (struct grants){ { { 0 } }, { { 0 } }, ~UINT64_C(0), ~UINT64_C(0) };
+    t->r.isa = 3000;
+    t->r.count = n;
+    for (uint32_t i = 0; i < n; i++) {
+        struct feature *f = &t->r.features[i];
+        f->offset = 100 * i;
+        f->given = ISA | USABLE_PRIVILEGE | HV_SUPPORT | OS_SUPPORT | HFSCR_BIT_NR | FSCR_BIT_NR | HWCAP_BIT_NR | PHANDLE;
+        f->isa = 3000;
+        f->usable_privilege = without >> i & 1 ? 6 : 7;
+        f->hv_support = 1;
+        f->os_support = 1;
+        f->hfscr_bit_nr = i;
+        f->fscr_bit_nr = i;
+        f->hwcap_bit_nr = i;
+        f->phandle = i + 1;
+    }
+    return t;
+}
+
+static void need(struct graph *t, uint32_t i, uint32_t d)
+{
+    struct feature *f = &t->r.features[i];
+    f->given |= DEPENDENCIES;
+    t->r.slots[MOST_DEPENDENCIES * i + f->dependencies] = (uint16_t)d;
+    f->dependencies++;
+}
+
+/* A chain of 64, upwards: position i needs i + 1, and the last is not permitted; or downwards. */
+static struct graph *chain_graph(bool up)
+{
+    struct graph *t = up ? start("chain of 64, up", 64, UINT64_C(1) << 63, 0) : start("chain of 64, down", 64, 1, 63);
+    for (uint32_t i = 0; i < 63; i++)
+        if (up)
+            need(t, i, i + 1);
+        else
+            need(t, i + 1, i);
+    return t;
+}
+
+/* 64 features of sixteen dependencies each: all permitted, or all but position 40. */
+static struct graph *dense_graph(bool all)
+{
+    struct graph *t = all ? start("dense, all permitted", 64, 0, 7) : start("dense, one not permitted", 64, UINT64_C(1) << 40, 7);
+    for (uint32_t i = 0; i < 64; i++)
+        for (uint32_t j = 0; j < MOST_DEPENDENCIES; j++)
+            need(t, i, (i * 7 + j * j + 3 * j + 1) % 64);
+    return t;
+}
+
+/* 50 features with fifteen dependencies in all; two are not permitted. A third of the features have no hypervisor's support, a third no
+   system's. */
+static struct graph *typical_graph(void)
+{
+    static const uint8_t pairs[15][2] = { { 5, 4 }, { 9, 8 }, { 12, 9 }, { 13, 9 }, { 14, 12 }, { 17, 3 }, { 20, 12 }, { 21, 12 },
+        { 21, 20 }, { 26, 25 }, { 30, 14 }, { 33, 30 }, { 38, 2 }, { 41, 38 }, { 47, 33 } };
+    struct graph *t = start("typical, 50 features", 50, UINT64_C(1) << 8 | UINT64_C(1) << 25, 47);
+    for (uint32_t i = 0; i < 50; i++) {
+        struct feature *f = &t->r.features[i];
+        if (i % 3 == 0)
+            f->given &= ~(uint32_t)(HV_SUPPORT | HFSCR_BIT_NR);
+        if (i % 3 == 1)
+            f->given &= ~(uint32_t)(OS_SUPPORT | FSCR_BIT_NR);
+    }
+    for (uint32_t k = 0; k < 15; k++)
+        need(t, pairs[k][0], pairs[k][1]);
+    return t;
+}
+
+int main(void)
+{
+    struct graph *graphs[] = { chain_graph(true), chain_graph(false), dense_graph(true), dense_graph(false), typical_graph() };
+    size_t n = sizeof graphs / sizeof *graphs;
+
+    for (size_t i = 0; i < n; i++)
+        compare(graphs[i]);
+    printf("answers: the library's are those of C on every graph, at each level, for each position and each length of the buffer\n");
+    printf("buffers: not cleared between calls; warm caches; medians of %d runs in turn, nanoseconds a call\n\n", RUNS);
+    printf("%-28s %-13s %8s %8s %8s %8s %8s   %s\n", "graph", "call", "Rattle", "C, test", "C, no", "ratio", "ratio", "goal");
+    for (size_t c = 0; c < sizeof calls / sizeof *calls; c++)
+        for (size_t i = 0; i < n; i++)
+            measure(graphs[i], &calls[c]);
+    for (size_t i = 0; i < n; i++)
+        free(graphs[i]);
+    return 0;
+}

@@ -1,0 +1,31 @@
+-- Marks: small numbers of names' characters. Equal names have equal marks, so a name whose mark is new in its node has not been given
+-- there. No verdict rests on which number a mark is.
+use Prim.Native.Nat.{ℕ, _+_, _*_, _%_, _^_}
+use mathlib.Core.Bool.{Bool, not}
+use mathlib.Core.List.{List, [], _∷_}
+use lib.Dec.{eqb, leb}
+use lib.ListN.{length, getD, set}
+use Rattle.cells.specs.Strings.{Text, ended, unended}
+use Rattle.names.specs.Names.{either, isPropertyName}
+use Rattle.tokens.specs.Steps.{pick}
+
+-- how many marks there are
+abbrev pub markCount : ℕ
+markCount = 256
+
+-- the mark of characters behind some whose number is m
+unfoldable pub markFrom : ℕ → List ℕ → ℕ
+markFrom m [] = m % markCount
+markFrom m (c ∷ cs) = markFrom ((m * 13 + c) % 2 ^ 32) cs
+
+unfoldable pub markOf : Text → ℕ
+markOf (ended cs) = markFrom 0 cs
+markOf unended = 0
+
+-- a mark is set among marks; one past their end counts as set
+unfoldable pub isSet : List ℕ → ℕ → Bool
+isSet marks mark = either (leb (length marks) mark) (not (eqb (getD marks mark 0) 0))
+
+-- the marks once a property of a name has come: that of a name as it should be is set
+unfoldable pub withMark : Text → List ℕ → List ℕ
+withMark n marks = pick (isPropertyName n) (set marks (markOf n) 1) marks
