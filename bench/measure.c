@@ -116,6 +116,25 @@ static void compare(struct graph *t)
     }
 }
 
+/* The same of records that are not well formed, each by one fault. */
+static void compare_refused(const struct graph *t)
+{
+    for (int fault = 0; fault < 5; fault++) {
+        struct graph x = *t;
+        struct feature *f = &x.r.features[21];
+        switch (fault) {
+        case 0: x.r.count = MOST_FEATURES + 1; break;
+        case 1: f->dependencies = MOST_DEPENDENCIES + 1; break;
+        case 2: x.r.slots[MOST_DEPENDENCIES * 21] = (uint16_t)x.r.count; break;
+        case 3: f->hwcap_bit_nr = 64; break;
+        case 4: f->given &= ~(uint32_t)HWCAP_BIT_NR; break;
+        }
+        if (c_well_formed(&x.r) != 14)
+            fail(t, "refusal");
+        compare(&x);
+    }
+}
+
 static double now(void)
 {
     struct timespec t;
@@ -157,10 +176,10 @@ static void measure(const struct graph *t, const struct call *c)
         tested[k] = values[LIBRARY][k] / values[TESTED][k];
         plain[k] = values[LIBRARY][k] / values[PLAIN][k];
     }
-    printf("%-28s %-13s %8.0f %8.0f %8.0f %8.2f %8.2f", t->name, c->name, median(values[LIBRARY]), median(values[TESTED]),
+    printf("%-26s%-14s%9.0f%9.0f%9.0f%9.2f%9.2f", t->name, c->name, median(values[LIBRARY]), median(values[TESTED]),
         median(values[PLAIN]), median(tested), median(plain));
     if (c->goal != 0)
-        printf("   %.1f", c->goal);
+        printf("%7.1f", c->goal);
     printf("\n");
 }
 
@@ -247,9 +266,12 @@ int main(void)
 
     for (size_t i = 0; i < n; i++)
         compare(graphs[i]);
-    printf("answers: the library's are those of C on every graph, at each level, for each position and each length of the buffer\n");
-    printf("buffers: not cleared between calls; warm caches; medians of %d runs in turn, nanoseconds a call\n\n", RUNS);
-    printf("%-28s %-13s %8s %8s %8s %8s %8s   %s\n", "graph", "call", "Rattle", "C, test", "C, no", "ratio", "ratio", "goal");
+    compare_refused(graphs[n - 1]);
+    printf("answers: the library's are those of C on every graph, at each level, for each position and each length of the buffer,\n");
+    printf("         and on five records that are not well formed\n");
+    printf("buffers: not cleared between calls; caches warm\n");
+    printf("figures: medians of %d runs in turn, nanoseconds a call; C with a test of the record's form, and without\n\n", RUNS);
+    printf("%-26s%-14s%9s%9s%9s%9s%9s%7s\n", "graph", "call", "Rattle", "C test", "C no", "R/test", "R/no", "goal");
     for (size_t c = 0; c < sizeof calls / sizeof *calls; c++)
         for (size_t i = 0; i < n; i++)
             measure(graphs[i], &calls[c]);
