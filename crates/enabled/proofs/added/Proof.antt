@@ -4,10 +4,6 @@ use Rattle.enabled.proofs.InsideLaws.{added-in, added-out}
 use borrow.Author.Needs.{needs}
 use Rattle.enabled.proofs.added.Statement.{statement}
 use Rattle.enabled.proofs.added.Tie as tie
-use Rattle.enabled.proofs.added.Reads as reads
-use Rattle.enabled.proofs.added.Lts as lts
-use Rattle.positions.proofs.insert.Reads as insert-reads
-use Rattle.positions.proofs.subset.Reads as subset-reads
 
 subset-requires : tie.Need-subset-requires
 subset-requires c κs = search needs

@@ -8,11 +8,6 @@ use Rattle.enabled.specs.Parts.{slotSet}
 use Rattle.enabled.proofs.NeedsLaws.{slots-none, slots-more}
 use Rattle.enabled.proofs.dependencies.Statement.{statement}
 use Rattle.enabled.proofs.dependencies.Tie as tie
-use Rattle.enabled.proofs.dependencies.Reads as reads
-use Rattle.enabled.proofs.dependencies.Lts as lts
-use Rattle.enabled.proofs.wide.Reads as wide-reads
-use Rattle.positions.proofs.empty.Reads as empty-reads
-use Rattle.positions.proofs.insert.Reads as insert-reads
 
 abbrev Inv-loop : tie.InvT-loop
 Inv-loop slots i n s₀ j₀ s j = (j ≤ n) × (s .words ≡ slotSet slots i j)

@@ -6,10 +6,6 @@ use Rattle.enabled.specs.Parts.{TakesOut}
 use Rattle.enabled.proofs.PassLaws.{takes-none, takes-next}
 use Rattle.enabled.proofs.down.Statement.{statement}
 use Rattle.enabled.proofs.down.Tie as tie
-use Rattle.enabled.proofs.down.Reads as reads
-use Rattle.enabled.proofs.down.Lts as lts
-use Rattle.enabled.proofs.kept.Reads as kept-reads
-use Rattle.enabled.proofs.row.Reads as row-reads
 
 abbrev Inv-loop : tie.InvT-loop
 Inv-loop table n t₀ i₀ t i = (i ≤ n) × TakesOut table n (t₀ .words) (t .words)

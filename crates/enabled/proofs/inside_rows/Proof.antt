@@ -8,11 +8,6 @@ use Rattle.enabled.proofs.RowLaws.{row-low}
 use Rattle.enabled.proofs.InsideLaws.{inside-none, inside-more, inside-all}
 use Rattle.enabled.proofs.inside_rows.Statement.{statement}
 use Rattle.enabled.proofs.inside_rows.Tie as tie
-use Rattle.enabled.proofs.inside_rows.Reads as reads
-use Rattle.enabled.proofs.inside_rows.Lts as lts
-use Rattle.enabled.proofs.added.Reads as added-reads
-use Rattle.enabled.proofs.row.Reads as row-reads
-use Rattle.positions.proofs.empty.Reads as empty-reads
 
 abbrev Inv-loop : tie.InvT-loop
 Inv-loop table n p s₀ i₀ s i = (i ≤ n) × (s .words ≡ rowsInside table i (p .words))

@@ -5,11 +5,6 @@ use native.Mathlib.Omega.{arith}
 use Rattle.enabled.proofs.JoinLaws.{JoinsBelow, joins-none, joins-more, joins-all}
 use Rattle.enabled.proofs.join.Statement.{statement}
 use Rattle.enabled.proofs.join.Tie as tie
-use Rattle.enabled.proofs.join.Reads as reads
-use Rattle.enabled.proofs.join.Lts as lts
-use Rattle.enabled.proofs.joined.Reads as joined-reads
-use Rattle.enabled.proofs.put_row.Reads as put-row-reads
-use Rattle.enabled.proofs.row.Reads as row-reads
 
 abbrev Inv-loop : tie.InvT-loop
 Inv-loop table₀ n k y i₀ table i = JoinsBelow n k i table₀ table

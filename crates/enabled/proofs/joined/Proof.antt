@@ -4,10 +4,6 @@ use Rattle.enabled.proofs.JoinLaws.{joined-in, joined-out}
 use borrow.Author.Needs.{needs}
 use Rattle.enabled.proofs.joined.Statement.{statement}
 use Rattle.enabled.proofs.joined.Tie as tie
-use Rattle.enabled.proofs.joined.Reads as reads
-use Rattle.enabled.proofs.joined.Lts as lts
-use Rattle.positions.proofs.member.Reads as member-reads
-use Rattle.positions.proofs.union.Reads as union-reads
 
 member-requires : tie.Need-member-requires
 member-requires c κs = search needs

@@ -4,10 +4,6 @@ use Rattle.enabled.proofs.PassLaws.{kept-whole, kept-without}
 use borrow.Author.Needs.{needs}
 use Rattle.enabled.proofs.kept.Statement.{statement}
 use Rattle.enabled.proofs.kept.Tie as tie
-use Rattle.enabled.proofs.kept.Reads as reads
-use Rattle.enabled.proofs.kept.Lts as lts
-use Rattle.positions.proofs.remove.Reads as remove-reads
-use Rattle.positions.proofs.subset.Reads as subset-reads
 
 subset-requires : tie.Need-subset-requires
 subset-requires c κs = search needs

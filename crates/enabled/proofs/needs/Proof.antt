@@ -9,12 +9,6 @@ use Rattle.enabled.proofs.TableLaws.{zero-table, table-more}
 use Rattle.enabled.proofs.NeedsLaws.{inSlots, slots-row, needs-all}
 use Rattle.enabled.proofs.needs.Statement.{statement}
 use Rattle.enabled.proofs.needs.Tie as tie
-use Rattle.enabled.proofs.needs.Reads as reads
-use Rattle.enabled.proofs.needs.Lts as lts
-use Rattle.enabled.proofs.dependencies.Reads as dependencies-reads
-use Rattle.enabled.proofs.least.Reads as least-reads
-use Rattle.enabled.proofs.put_row.Reads as put-row-reads
-use Rattle.record.proofs.dependency_count.Reads as dependency-count-reads
 
 abbrev Inv-loop : tie.InvT-loop
 Inv-loop r n words₀ i₀ words i = (i ≤ n) × (words ≡ tableOf i (inSlots r))

@@ -7,8 +7,6 @@ use Rattle.record.specs.Record.{mostFeatures}
 use Rattle.enabled.proofs.RowLaws.{PutTo, put-none, put-more, put-all}
 use Rattle.enabled.proofs.put_row.Statement.{statement}
 use Rattle.enabled.proofs.put_row.Tie as tie
-use Rattle.enabled.proofs.put_row.Reads as reads
-use Rattle.enabled.proofs.put_row.Lts as lts
 
 abbrev Inv-loop : tie.InvT-loop
 Inv-loop table₀ i s w₀ table w = PutTo table₀ i (s .words) table w × (i < mostFeatures)

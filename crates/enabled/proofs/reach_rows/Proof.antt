@@ -5,10 +5,6 @@ use native.Mathlib.Omega.{arith}
 use Rattle.enabled.proofs.JoinLaws.{Closes, closes-none, closes-more, closes-all}
 use Rattle.enabled.proofs.reach_rows.Statement.{statement}
 use Rattle.enabled.proofs.reach_rows.Tie as tie
-use Rattle.enabled.proofs.reach_rows.Reads as reads
-use Rattle.enabled.proofs.reach_rows.Lts as lts
-use Rattle.enabled.proofs.join.Reads as join-reads
-use Rattle.enabled.proofs.with_selves.Reads as with-selves-reads
 
 abbrev Inv-loop : tie.InvT-loop
 Inv-loop table n words₀ k₀ words k = Closes table n k words

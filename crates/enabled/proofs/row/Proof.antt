@@ -8,9 +8,6 @@ use Rattle.record.specs.Record.{mostFeatures}
 use Rattle.enabled.proofs.RowLaws.{ReadTo, read-none, read-more, read-all, row-past, row-low}
 use Rattle.enabled.proofs.row.Statement.{statement}
 use Rattle.enabled.proofs.row.Tie as tie
-use Rattle.enabled.proofs.row.Reads as reads
-use Rattle.enabled.proofs.row.Lts as lts
-use Rattle.positions.proofs.empty.Reads as empty-reads
 
 abbrev Inv-loop : tie.InvT-loop
 Inv-loop table i s₀ w₀ s w = ReadTo table i (s .words) w × (i < mostFeatures)

@@ -9,13 +9,6 @@ use Rattle.enabled.proofs.PassLaws.{takes-none}
 use Rattle.enabled.proofs.SweepLaws.{round-next, round-less, round-last}
 use Rattle.enabled.proofs.sweep.Statement.{statement}
 use Rattle.enabled.proofs.sweep.Tie as tie
-use Rattle.enabled.proofs.sweep.Reads as reads
-use Rattle.enabled.proofs.sweep.Lts as lts
-use Rattle.enabled.proofs.down.Reads as down-reads
-use Rattle.enabled.proofs.up.Reads as up-reads
-use Rattle.positions.proofs.below.Reads as below-reads
-use Rattle.positions.proofs.intersection.Reads as intersection-reads
-use Rattle.positions.proofs.subset.Reads as subset-reads
 
 abbrev Inv-loop : tie.InvT-loop
 Inv-loop table n s₀ s = TakesOut table n (s₀ .words) (s .words)

@@ -6,10 +6,6 @@ use Rattle.enabled.specs.Parts.{Passes}
 use Rattle.enabled.proofs.PassLaws.{pass-none, pass-next, pass-all}
 use Rattle.enabled.proofs.up.Statement.{statement}
 use Rattle.enabled.proofs.up.Tie as tie
-use Rattle.enabled.proofs.up.Reads as reads
-use Rattle.enabled.proofs.up.Lts as lts
-use Rattle.enabled.proofs.kept.Reads as kept-reads
-use Rattle.enabled.proofs.row.Reads as row-reads
 
 abbrev Inv-loop : tie.InvT-loop
 Inv-loop table n t₀ i₀ t i = (i ≤ n) × Passes table n i (t₀ .words) (t .words)

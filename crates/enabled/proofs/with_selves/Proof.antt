@@ -10,11 +10,6 @@ use Rattle.enabled.proofs.TableLaws.{zero-table, table-more, table-all}
 use Rattle.enabled.proofs.JoinLaws.{self-row}
 use Rattle.enabled.proofs.with_selves.Statement.{statement}
 use Rattle.enabled.proofs.with_selves.Tie as tie
-use Rattle.enabled.proofs.with_selves.Reads as reads
-use Rattle.enabled.proofs.with_selves.Lts as lts
-use Rattle.enabled.proofs.put_row.Reads as put-row-reads
-use Rattle.enabled.proofs.row.Reads as row-reads
-use Rattle.positions.proofs.insert.Reads as insert-reads
 
 abbrev Inv-loop : tie.InvT-loop
 Inv-loop table n words₀ i₀ words i = (i ≤ n) × (words ≡ tableOf i (withSelf table))

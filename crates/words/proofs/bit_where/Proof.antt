@@ -4,8 +4,6 @@ use borrow.Author.Tests.{not-true, not-false}
 use Rattle.words.proofs.WordLaws.{bit-off, bit-absent, bit-high, bit-on}
 use Rattle.words.proofs.bit_where.Statement.{statement}
 use Rattle.words.proofs.bit_where.Tie as tie
-use Rattle.words.proofs.bit_where.Reads as reads
-use Rattle.words.proofs.bit_where.Lts as lts
 
 returns : tie.Need-returns
 returns c = bit-off _ _ (not-true _ (c .if1 .taken))

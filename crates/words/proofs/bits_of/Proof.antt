@@ -7,10 +7,6 @@ use Rattle.record.specs.Record.{mostFeatures}
 use Rattle.words.proofs.BitsLaws.{BitsBelow, bits-begin, bits-more, bits-all}
 use Rattle.words.proofs.bits_of.Statement.{statement}
 use Rattle.words.proofs.bits_of.Tie as tie
-use Rattle.words.proofs.bits_of.Reads as reads
-use Rattle.words.proofs.bits_of.Lts as lts
-use Rattle.positions.proofs.member.Reads as member-reads
-use Rattle.words.proofs.feature_bits.Reads as feature-bits-reads
 
 abbrev Inv-loop : tie.InvT-loop
 Inv-loop enabled r n hwcap₀ hfscr₀ fscr₀ i₀ hwcap hfscr fscr i =

@@ -6,12 +6,6 @@ use Rattle.words.specs.Parts.{bitWhere}
 use borrow.Author.Needs.{needs}
 use Rattle.words.proofs.feature_bits.Statement.{statement}
 use Rattle.words.proofs.feature_bits.Tie as tie
-use Rattle.words.proofs.feature_bits.Reads as reads
-use Rattle.words.proofs.feature_bits.Lts as lts
-use Rattle.record.proofs.cell_of.Reads as cell-of-reads
-use Rattle.record.proofs.low_bit.Reads as low-bit-reads
-use Rattle.words.proofs.bit_where.Reads as bit-where-reads
-use Rattle.words.proofs.both.Reads as both-reads
 
 cell-of-requires : tie.Need-cell-of-requires
 cell-of-requires c κs = search needs

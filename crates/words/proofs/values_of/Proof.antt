@@ -3,10 +3,6 @@ use Rattle.words.proofs.BitsLaws.{values-are}
 use borrow.Author.Needs.{needs}
 use Rattle.words.proofs.values_of.Statement.{statement}
 use Rattle.words.proofs.values_of.Tie as tie
-use Rattle.words.proofs.values_of.Reads as reads
-use Rattle.words.proofs.values_of.Lts as lts
-use Rattle.words.proofs.below_level.Reads as below-level-reads
-use Rattle.words.proofs.bits_of.Reads as bits-of-reads
 
 bits-of-requires : tie.Need-bits-of-requires
 bits-of-requires c κs = search needs
