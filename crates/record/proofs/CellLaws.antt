@@ -14,8 +14,8 @@ unfolding cell
 cell-is f e h = e ∙ ap (cell f) (sym h)
 
 -- the bit number in y, required by bit 0 of the cell x, by way of the code's locals
-pub fits-by : {fits low : Bool} {a b x y : Cell} → fits ≡ bitFits low b → low ≡ lowBit a → a ≡ x → b ≡ y → fits ≡ bitFits (lowBit x) y
-fits-by e l p q = e ∙ ap₂ bitFits (l ∙ ap lowBit p) q
+pub fits-by : {fits : Bool} {a b x y : Cell} → fits ≡ bitFits (lowBit b) a → b ≡ x → a ≡ y → fits ≡ bitFits (lowBit x) y
+fits-by e p q = e ∙ ap₂ bitFits (ap lowBit p) q
 
 module _ (f : Feature) where
   -- the three tests of `bitsFit`

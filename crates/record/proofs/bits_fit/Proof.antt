@@ -9,9 +9,6 @@ use Rattle.record.proofs.bits_fit.Tie as tie
 cell-of-requires : tie.Need-cell-of-requires
 cell-of-requires c κs = search needs
 
-low-bit-requires : tie.Need-low-bit-requires
-low-bit-requires c κs = search needs
-
 cell-of-requires-2 : tie.Need-cell-of-requires-2
 cell-of-requires-2 c κs = search needs
 
@@ -19,15 +16,10 @@ bit-fits-requires : tie.Need-bit-fits-requires
 bit-fits-requires c κs = search needs
 
 returns : tie.Need-returns
-returns c =
-    let first = fits-by (c .before .bit-fits .ensures) (c .before .before .before .low-bit .ensures) (c .before .before .before .before .cell-of .ensures) (c .before .before .cell-of2 .ensures) in
-    bits-first _ (sym first ∙ not-true _ (c .if1 .taken))
+returns c = bits-first _ (sym (fits-by (c .before .bit-fits .ensures) (c .before .before .cell-of2 .ensures) (c .before .before .before .cell-of .ensures)) ∙ not-true _ (c .if1 .taken))
 
 cell-of-requires-3 : tie.Need-cell-of-requires-3
 cell-of-requires-3 c κs = search needs
-
-low-bit-requires-2 : tie.Need-low-bit-requires-2
-low-bit-requires-2 c κs = search needs
 
 cell-of-requires-4 : tie.Need-cell-of-requires-4
 cell-of-requires-4 c κs = search needs
@@ -37,16 +29,13 @@ bit-fits-requires-2 c κs = search needs
 
 returns-2 : tie.Need-returns-2
 returns-2 c =
-    let a = c .before .before .before .before .before in
-    let first = fits-by (a .before .bit-fits .ensures) (a .before .before .before .low-bit .ensures) (a .before .before .before .before .cell-of .ensures) (a .before .before .cell-of2 .ensures) in
-    let second = fits-by (c .before .bit-fits2 .ensures) (c .before .before .before .low-bit2 .ensures) (c .before .before .before .before .cell-of3 .ensures) (c .before .before .cell-of4 .ensures) in
+    let a = c .before .before .before .before in
+    let first = fits-by (a .before .bit-fits .ensures) (a .before .before .cell-of2 .ensures) (a .before .before .before .cell-of .ensures) in
+    let second = fits-by (c .before .bit-fits2 .ensures) (c .before .before .cell-of4 .ensures) (c .before .before .before .cell-of3 .ensures) in
     bits-second _ (sym first ∙ not-false _ (a .if1 .left)) (sym second ∙ not-true _ (c .if2 .taken))
 
 cell-of-requires-5 : tie.Need-cell-of-requires-5
 cell-of-requires-5 c κs = search needs
-
-low-bit-requires-3 : tie.Need-low-bit-requires-3
-low-bit-requires-3 c κs = search needs
 
 cell-of-requires-6 : tie.Need-cell-of-requires-6
 cell-of-requires-6 c κs = search needs
@@ -56,11 +45,11 @@ bit-fits-requires-3 c κs = search needs
 
 returns-3 : tie.Need-returns-3
 returns-3 c =
-    let b = c .before .before .before .before in
-    let a = b .before .before .before .before .before in
-    let first = fits-by (a .before .bit-fits .ensures) (a .before .before .before .low-bit .ensures) (a .before .before .before .before .cell-of .ensures) (a .before .before .cell-of2 .ensures) in
-    let second = fits-by (b .before .bit-fits2 .ensures) (b .before .before .before .low-bit2 .ensures) (b .before .before .before .before .cell-of3 .ensures) (b .before .before .cell-of4 .ensures) in
-    fits-by (c .bit-fits3 .ensures) (c .before .before .low-bit3 .ensures) (c .before .before .before .cell-of5 .ensures) (c .before .cell-of6 .ensures)
+    let b = c .before .before .before in
+    let a = b .before .before .before .before in
+    let first = fits-by (a .before .bit-fits .ensures) (a .before .before .cell-of2 .ensures) (a .before .before .before .cell-of .ensures) in
+    let second = fits-by (b .before .bit-fits2 .ensures) (b .before .before .cell-of4 .ensures) (b .before .before .before .cell-of3 .ensures) in
+    fits-by (c .bit-fits3 .ensures) (c .before .cell-of6 .ensures) (c .before .before .cell-of5 .ensures)
     ∙ bits-third _ (sym first ∙ not-false _ (a .if1 .left)) (sym second ∙ not-false _ (b .if2 .left))
 
 pub bits-fit-spec : {M : Type 1} → statement M
@@ -68,17 +57,14 @@ bits-fit-spec =
     tie.close
     (tie.spec
     cell-of-requires
-    low-bit-requires
     cell-of-requires-2
     bit-fits-requires
     returns
     cell-of-requires-3
-    low-bit-requires-2
     cell-of-requires-4
     bit-fits-requires-2
     returns-2
     cell-of-requires-5
-    low-bit-requires-3
     cell-of-requires-6
     bit-fits-requires-3
     returns-3)
