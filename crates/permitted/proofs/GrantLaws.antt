@@ -5,7 +5,6 @@ use mathlib.Core.Path.{_≡_, refl, ap, _∙_}
 use mathlib.Core.Bool.{Bool, true, _&&_, _||_}
 use native.Mathlib.Omega.{arith}
 use lib.Dec.{leb}
-use Rattle.positions.specs.Bits.{bit}
 use Rattle.positions.specs.Sets.{setWords, has, collect}
 use Rattle.positions.proofs.SetLaws.{collect-same}
 use Rattle.record.specs.Cells.{cell, bitOf, held}
@@ -15,7 +14,7 @@ use Rattle.record.specs.declared.Record.{Record}
 use Rattle.record.specs.declared.Cell.{Cell}
 use Rattle.record.specs.declared.Cell.the-variants.{Absent, Given}
 use Rattle.record.specs.declared.Property.the-variants.{UsablePrivilege, HvSupport, OsSupport, HfscrBitNr, FscrBitNr}
-use Rattle.permitted.specs.Permitted.{withIsa, isUsable, isGranted, isSupported, isSupportedBelow, isPermitted, permittedAt, permittedSet, system, hypervisor}
+use Rattle.permitted.specs.Permitted.{withIsa, isUsable, byRegister, isSupported, isSupportedBelow, isPermitted, permittedAt, permittedSet, system, hypervisor}
 use Rattle.permitted.specs.declared.Grants.{Grants}
 use Rattle.permitted.proofs.PermittedLaws.{or-true, byPrivilege}
 
@@ -76,7 +75,7 @@ isa-ignored r s level g e a =
 -- own code supports at any level, whatever the cells say
 own-supports : (support number : Cell) (mask : ℕ) → isSupported support number mask true ≡ true
 own-supports Absent number mask = refl
-own-supports (Given s) number mask = or-true (bit s 0 && isGranted mask number)
+own-supports (Given s) number mask = or-true (byRegister s number mask)
 
 own-below : (upper level : ℕ) (support number : Cell) (mask : ℕ) (own : Bool) → own ≡ true → isSupportedBelow upper level support number mask own ≡ true
 unfolding isSupportedBelow

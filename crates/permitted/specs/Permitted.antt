@@ -11,7 +11,7 @@ use Rattle.record.specs.declared.Property.the-variants.{UsablePrivilege, HvSupp
 use Rattle.record.specs.declared.Cell.{Cell}
 use Rattle.record.specs.declared.Cell.the-variants.{Absent, Given}
 use Rattle.record.specs.Record.{mostFeatures, featureAt}
-use Rattle.record.specs.Cells.{cell, lowBit}
+use Rattle.record.specs.Cells.{cell}
 use Rattle.permitted.specs.declared.Grants.{Grants}
 
 -- 0 is user, 1 system, 2 hypervisor
@@ -31,11 +31,15 @@ abbrev pub isGranted : ℕ → Cell → Bool
 isGranted mask Absent = false
 isGranted mask (Given number) = bit mask number
 
+-- "its bit 0 is set and its HFSCR bit granted"
+unfoldable pub byRegister : ℕ → Cell → ℕ → Bool
+byRegister support number mask = bit support 0 && isGranted mask number
+
 -- "`hv-support` is absent, or its bit 0 is set and its HFSCR bit granted, or the hypervisor supports the feature by its own code";
 -- "the same of `os-support`, FSCR and the system"
 abbrev pub isSupported : Cell → Cell → ℕ → Bool → Bool
 isSupported Absent number mask ownCode = true
-isSupported (Given support) number mask ownCode = (lowBit (Given support) && isGranted mask number) || ownCode
+isSupported (Given support) number mask ownCode = byRegister support number mask || ownCode
 
 -- asked below the level that gives the support: "below hypervisor" of the hypervisor, "at user" of the system
 unfoldable pub isSupportedBelow : ℕ → ℕ → Cell → Cell → ℕ → Bool → Bool

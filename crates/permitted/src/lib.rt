@@ -7,11 +7,11 @@ use record::Property;
 use record::Record;
 use refusal::Refusal;
 ghost use mathlib.Core.Path.{_≡_};
-ghost use Prim.Native.Nat.{min};
-ghost use Rattle.permitted.specs.Permitted.{isUsable, isGranted, isSupported, isSupportedBelow, isPermitted, permittedSet};
-ghost use Rattle.refusal.specs.Refusal.{numberOf};
-ghost use Rattle.refusal.specs.Checks.{faultOf};
-ghost use Rattle.permitted.specs.Asked.{askedChecks, permitted as permittedOf, permittedOutcome};
+ghost use mathlib.Core.Bool.{cond};
+ghost use Rattle.refusal.specs.Refusal.{numberOf, refuse};
+ghost use Rattle.positions.specs.Sets.{has, withMember};
+ghost use Rattle.permitted.specs.Permitted.{isUsable, isGranted, byRegister, isSupported, isSupportedBelow, isPermitted};
+ghost use Rattle.permitted.specs.Asked.{nothingSeen, examined, examinedOutcome, permitted as permittedOf, permittedOutcome};
 
 // The levels: 0 is user.
 pub const SYSTEM: u32 = 1;
@@ -34,6 +34,14 @@ pub struct PermittedFeatures {
     pub set: Set,
 }
 
+// A refusal, or the set of permitted positions and the number of dependencies of each feature; zeros beside a refusal, and zeros from the
+// count on.
+pub struct Examined {
+    pub refusal: Refusal,
+    pub set: Set,
+    pub counts: [u32; MOST_FEATURES],
+}
+
 fn is_usable(c: Cell, level: u32) -> bool
     ensures { λ r. ⌜ r ≡ isUsable c level ⌝ }
 {
@@ -52,20 +60,27 @@ fn is_granted(mask: u64, number: Cell) -> bool
     }
 }
 
-// Whether a level's support permits a feature: absent, or granted, or by the level's own code.
-fn is_supported(support: Cell, number: Cell, mask: u64, own: bool) -> bool
-    ensures { λ r. ⌜ r ≡ isSupported support number mask own ⌝ }
+// Whether the bit of a register permits a feature: bit 0 of its support is set, and its bit granted.
+fn by_register(support: u32, number: Cell, mask: u64) -> bool
+    ensures { λ r. ⌜ r ≡ byRegister support number mask ⌝ }
+{
+    if !positions::bit_set(support as u64, 0) {
+        return false;
+    }
+    is_granted(mask, number)
+}
+
+// Whether a level's support permits the feature at position `i`: absent, or granted, or by the level's own code.
+fn is_supported(support: Cell, number: Cell, mask: u64, own: Set, i: usize) -> bool
+    ensures { λ r. ⌜ r ≡ isSupported support number mask (has (own .words) i) ⌝ }
 {
     match support {
         Cell::Absent => true,
         Cell::Given(s) => {
-            if own {
+            if by_register(s, number, mask) {
                 return true;
             }
-            if !positions::bit_set(s as u64, 0) {
-                return false;
-            }
-            is_granted(mask, number)
+            positions::member(own, i)
         }
     }
 }
@@ -77,14 +92,15 @@ fn is_supported_below(
     support: Cell,
     number: Cell,
     mask: u64,
-    own: bool,
+    own: Set,
+    i: usize,
 ) -> bool
-    ensures { λ r. ⌜ r ≡ isSupportedBelow upper level support number mask own ⌝ }
+    ensures { λ r. ⌜ r ≡ isSupportedBelow upper level support number mask (has (own .words) i) ⌝ }
 {
     if upper <= level {
         return true;
     }
-    is_supported(support, number, mask, own)
+    is_supported(support, number, mask, own, i)
 }
 
 // Whether the feature at position `i` is permitted.
@@ -100,7 +116,8 @@ pub fn is_permitted(f: Feature, level: u32, g: Grants, i: usize) -> bool
         record::cell_of(f, Property::HvSupport),
         record::cell_of(f, Property::HfscrBitNr),
         g.hfscr,
-        positions::member(g.hypervisor, i),
+        g.hypervisor,
+        i,
     ) {
         return false;
     }
@@ -110,62 +127,69 @@ pub fn is_permitted(f: Feature, level: u32, g: Grants, i: usize) -> bool
         record::cell_of(f, Property::OsSupport),
         record::cell_of(f, Property::FscrBitNr),
         g.fscr,
-        positions::member(g.system, i),
+        g.system,
+        i,
     )
 }
 
-fn least(a: usize, b: usize) -> usize
-    ensures { λ r. ⌜ r ≡ min a b ⌝ }
+// A set with a position, where it is to have it.
+fn with_permitted(s: Set, on: bool, i: usize) -> Set
+    ensures { λ r. ⌜ r .words ≡ cond on (withMember (s .words) i) (s .words) ⌝ }
 {
-    if a < b {
-        return a;
-    }
-    b
-}
-
-// The positions of the permitted features of a record: one test a feature.
-pub fn permitted_set(r: Record, level: u32, g: Grants) -> Set
-    ensures { λ s. ⌜ s .words ≡ permittedSet r level g ⌝ }
-{
-    let n = least(r.count as usize, MOST_FEATURES);
-    let mut s = positions::empty();
-    let mut i: usize = 0;
-    while i < n {
-        let f = r.features[i];
-        if is_permitted(f, level, g, i) {
-            s = positions::insert(s, i);
-        }
-        i += 1;
+    if on {
+        return positions::insert(s, i);
     }
     s
 }
 
-// The refusal of a record and a level: 14, then 15; none where both are good.
-pub fn asked(r: Record, level: u32) -> Refusal
-    ensures { λ x. ⌜ numberOf x ≡ faultOf (askedChecks r level) ⌝ }
+fn refused(refusal: Refusal) -> Examined
+    ensures { λ x. ⌜ examinedOutcome x ≡ refuse nothingSeen (numberOf refusal) ⌝ }
 {
-    if !record::well_formed(r) {
-        return Refusal::RecordForm;
+    Examined {
+        refusal,
+        set: positions::empty(),
+        counts: [0; MOST_FEATURES],
+    }
+}
+
+// What every call asks of a record, a level and grants: 14, then 15; then the permitted set, and how many dependencies each feature has.
+// The record is passed over once: two tests a feature.
+pub fn examine(r: Record, level: u32, g: Grants) -> Examined
+    ensures { λ x. ⌜ examinedOutcome x ≡ examined r level g ⌝ }
+{
+    let count = r.count;
+    let n = count as usize;
+    if MOST_FEATURES < n {
+        return refused(Refusal::RecordForm);
+    }
+    let mut set = positions::empty();
+    let mut counts: [u32; MOST_FEATURES] = [0; MOST_FEATURES];
+    let mut i: usize = 0;
+    while i < n {
+        let f = r.features[i];
+        if !record::feature_fits(f, &r.slots, count, i) {
+            return refused(Refusal::RecordForm);
+        }
+        counts[i] = record::dependency_count(f);
+        set = with_permitted(set, is_permitted(f, level, g, i), i);
+        i += 1;
     }
     if HYPERVISOR < level {
-        return Refusal::Level;
+        return refused(Refusal::Level);
     }
-    Refusal::None
+    Examined {
+        refusal: Refusal::None,
+        set,
+        counts,
+    }
 }
 
 // The permitted features of a record at a level under grants.
 pub fn permitted(r: Record, level: u32, g: Grants) -> PermittedFeatures
     ensures { λ p. ⌜ permittedOutcome p ≡ permittedOf r level g ⌝ }
 {
-    let refusal = asked(r, level);
-    if refusal::number(refusal) != 0 {
-        return PermittedFeatures {
-            refusal,
-            set: positions::empty(),
-        };
-    }
-    PermittedFeatures {
-        refusal: Refusal::None,
-        set: permitted_set(r, level, g),
-    }
+    let x = examine(r, level, g);
+    let refusal = x.refusal;
+    let set = x.set;
+    PermittedFeatures { refusal, set }
 }

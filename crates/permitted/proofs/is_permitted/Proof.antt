@@ -21,19 +21,14 @@ cell-of-requires-2 c κs = search needs
 cell-of-requires-3 : tie.Need-cell-of-requires-3
 cell-of-requires-3 c κs = search needs
 
-member-requires : tie.Need-member-requires
-member-requires c κs = search needs
-
 is-supported-below-requires : tie.Need-is-supported-below-requires
 is-supported-below-requires c κs = search needs
 
 returns-2 : tie.Need-returns-2
 returns-2 c =
-    let a = c .before .before .before .before .before in
+    let a = c .before .before .before .before in
     let usable = sym (usable-by _ (a .before .is-usable .ensures) (a .before .before .cell-of .ensures)) ∙ not-false _ (a .if1 .left) in
-    let supported =
-    supported-by _ _ _ (c .before .is-supported-below .ensures) (c .before .before .before .before .cell-of2 .ensures)
-    (c .before .before .before .cell-of3 .ensures) (c .before .before .member .ensures) in
+    let supported = supported-by _ _ _ _ (c .before .is-supported-below .ensures) (c .before .before .before .cell-of2 .ensures) (c .before .before .cell-of3 .ensures) in
     not-supported _ _ _ _ usable (sym supported ∙ not-true _ (c .if2 .taken))
 
 cell-of-requires-4 : tie.Need-cell-of-requires-4
@@ -42,23 +37,17 @@ cell-of-requires-4 c κs = search needs
 cell-of-requires-5 : tie.Need-cell-of-requires-5
 cell-of-requires-5 c κs = search needs
 
-member-requires-2 : tie.Need-member-requires-2
-member-requires-2 c κs = search needs
-
 is-supported-below-requires-2 : tie.Need-is-supported-below-requires-2
 is-supported-below-requires-2 c κs = search needs
 
 returns-3 : tie.Need-returns-3
 returns-3 c =
-    let b = c .before .before .before .before in
-    let a = b .before .before .before .before .before in
+    let b = c .before .before .before in
+    let a = b .before .before .before .before in
     let usable = sym (usable-by _ (a .before .is-usable .ensures) (a .before .before .cell-of .ensures)) ∙ not-false _ (a .if1 .left) in
-    let supported =
-    supported-by _ _ _ (b .before .is-supported-below .ensures) (b .before .before .before .before .cell-of2 .ensures)
-    (b .before .before .before .cell-of3 .ensures) (b .before .before .member .ensures) in
+    let supported = supported-by _ _ _ _ (b .before .is-supported-below .ensures) (b .before .before .before .cell-of2 .ensures) (b .before .before .cell-of3 .ensures) in
     system-decides _ _ _ _ usable (sym supported ∙ not-false _ (b .if2 .left))
-    (supported-by _ _ _ (c .is-supported-below2 .ensures) (c .before .before .before .cell-of4 .ensures)
-    (c .before .before .cell-of5 .ensures) (c .before .member2 .ensures))
+    (supported-by _ _ _ _ (c .is-supported-below2 .ensures) (c .before .before .cell-of4 .ensures) (c .before .cell-of5 .ensures))
 
 pub is-permitted-spec : {M : Type 1} → statement M
 is-permitted-spec =
@@ -69,11 +58,9 @@ is-permitted-spec =
     returns
     cell-of-requires-2
     cell-of-requires-3
-    member-requires
     is-supported-below-requires
     returns-2
     cell-of-requires-4
     cell-of-requires-5
-    member-requires-2
     is-supported-below-requires-2
     returns-3)
