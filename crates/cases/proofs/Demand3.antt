@@ -16,8 +16,8 @@ use Rattle.positions.proofs.SetLaws.{has-collect, collect-same}
 use Rattle.record.specs.declared.Record.{Record}
 use Rattle.record.specs.WellFormed.{wellFormed}
 use Rattle.record.proofs.Formed.{formed}
-use Rattle.reader.specs.Reading.{readRecord}
-use Rattle.reader.proofs.Formed.{read-formed}
+use Rattle.reading.specs.Reading.{readRecord}
+use Rattle.reading.proofs.Formed.{read-formed}
 use Rattle.permitted.specs.declared.Grants.{Grants}
 use Rattle.permitted.specs.Permitted.{permittedSet}
 use Rattle.permitted.specs.Asked.{askedChecks}

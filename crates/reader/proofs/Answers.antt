@@ -1,7 +1,7 @@
 -- Equal outcomes are equal answers, so that the promise decides its answer. Assumes nothing.
 use mathlib.Core.Path.{_≡_}
 use Rattle.refusal.proofs.Numbers.{same-placed}
-use Rattle.reader.specs.Reading.{readOutcome}
+use Rattle.reader.specs.Outcome.{readOutcome}
 use Rattle.reader.specs.declared.Read.{Read}
 
 pub same-read : (a b : Read) → readOutcome a ≡ readOutcome b → a ≡ b

@@ -9,7 +9,7 @@ use lib.Seq.{getD-take, getD-drop, getD-at}
 use Rattle.cells.specs.Cells.{cellAt}
 use Rattle.cells.specs.Rows.{each}
 use Rattle.cells.proofs.Rows.{length-each}
-use Rattle.reader.specs.Values.{Value, missing, cellsOf}
+use Rattle.reading.specs.Values.{Value, missing, cellsOf}
 use Rattle.reader.specs.Parts.{Lies, CellsLie}
 
 -- a cell of a part of a tree

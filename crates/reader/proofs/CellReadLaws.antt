@@ -13,8 +13,8 @@ use Rattle.cells.specs.Cells.{cellAt}
 use Rattle.refusal.specs.declared.Refusal.the-variants.{None, PropertyForm, OutOfRange}
 use Rattle.refusal.specs.Refusal.{numberOf}
 use Rattle.record.specs.declared.Cell.the-variants.{Absent, Given}
-use Rattle.reader.specs.declared.CellRead.{CellRead}
-use Rattle.reader.specs.Values.{Value, missing}
+use Rattle.reader.specs.declared.cell.CellRead.{CellRead}
+use Rattle.reading.specs.Values.{Value, missing}
 use Rattle.reader.specs.Parts.{Lies, badCell, CellIs, rangeOf, ifGood, inRange}
 
 -- the first cell of a part of a tree

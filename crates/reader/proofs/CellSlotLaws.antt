@@ -13,11 +13,11 @@ use Rattle.cells.proofs.Rows.{padded-more}
 use Rattle.refusal.specs.Refusal.{Fault, fault}
 use Rattle.refusal.specs.Checks.{Check, check}
 use Rattle.record.specs.Record.{slotCount}
-use Rattle.reader.specs.Nodes.{Node}
-use Rattle.reader.specs.Dependencies.{Carrier, nowhere, position, carrier, isSomewhere, slotOf, cellChecks}
-use Rattle.reader.specs.Ends.{AllHold, FirstFailing}
+use Rattle.reading.specs.Nodes.{Node}
+use Rattle.reading.specs.Dependencies.{Carrier, nowhere, position, carrier, isSomewhere, slotOf, cellChecks}
+use Rattle.reading.specs.Ends.{AllHold, FirstFailing}
 use Rattle.reader.specs.Parts.{FirstThat, notedAt, ArePhandles, CellsLie, Resolves, ResolvesCells}
-use Rattle.reader.proofs.JudgedLaws.{hold-both, fail-left, fail-right, fail-here}
+use Rattle.reading.proofs.CheckLaws.{hold-both, fail-left, fail-right, fail-here}
 use Rattle.reader.proofs.PhandleLaws.{carrier-there, carrier-nowhere}
 
 -- the checks of cells

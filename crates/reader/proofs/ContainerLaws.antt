@@ -11,29 +11,33 @@ use Rattle.characters.specs.Characters.{bytes}
 use Rattle.record.specs.declared.Feature.{Feature}
 use Rattle.record.specs.declared.Record.{Record}
 use Rattle.record.specs.Record.{mostFeatures, slotCount, noFeature, noFeatures}
-use Rattle.refusal.specs.declared.Refusal.{Refusal}
 use Rattle.refusal.specs.declared.Refusal.the-variants.{PropertyForm}
-use Rattle.refusal.specs.Refusal.{Fault, fault, refuseAt, numberOf}
+use Rattle.refusal.specs.Refusal.{Fault, fault, Placed, refuseAt}
 use Rattle.refusal.specs.Checks.{Check, check}
 use Rattle.tokens.specs.Steps.{pick}
 use Rattle.tokens.specs.Tokens.{Token}
-use Rattle.reader.specs.declared.CellRead.{CellRead}
-use Rattle.reader.specs.Nodes.{Node}
-use Rattle.reader.specs.Values.{Value, missing, value, valueIn, valueOf, isText, isCell}
-use Rattle.reader.specs.Features.{requiredChecks}
-use Rattle.reader.specs.Reading.{containerProperties, readOutcome}
-use Rattle.reader.specs.Ends.{FirstFailing}
+use Rattle.reader.specs.declared.cell.CellRead.{CellRead}
+use Rattle.reading.specs.Nodes.{Node}
+use Rattle.reading.specs.Values.{Value, missing, value, valueIn, valueOf, isText, isCell}
+use Rattle.reading.specs.Features.{requiredChecks}
+use Rattle.reading.specs.Reading.{containerProperties}
+use Rattle.reading.specs.Ends.{FirstFailing}
 use Rattle.reader.specs.Parts.{Lies, cellFault, badCell, CellIs, Judged, holdsText, ContainerIs}
-use Rattle.reader.proofs.JudgedLaws.{fail-left, fail-right, fail-here, judged-check}
+use Rattle.reading.proofs.CheckLaws.{fail-left, fail-right, fail-here}
+use Rattle.reader.proofs.JudgedLaws.{judged-check}
 
 -- a record of no features, as the code makes it
 abbrev none : Feature → Record
 none f = record { isa = 0; count = 0; features = replicate mostFeatures f; slots = replicate slotCount 0 }
 
-pub refused-is : (refusal : Refusal) (place : ℕ) {f : Feature} → f ≡ noFeature
-    → readOutcome (record { refusal = refusal; place = place; «record» = none f }) ≡ refuseAt noFeatures (fault (numberOf refusal) place)
+pub none-is : {f : Feature} → f ≡ noFeature → none f ≡ noFeatures
 unfolding noFeatures
-refused-is refusal place e = rw e
+none-is e = rw e
+
+-- an answer whose record is that of no features
+pub refused-is : {number place : ℕ} {v : Record} {x : Placed Record} → x ≡ record { number = number; place = place; value = v } → v ≡ noFeatures
+    → x ≡ refuseAt noFeatures (fault number place)
+refused-is {number} {place} e q = e ∙ ap (λ (v : Record). refuseAt v (fault number place)) q
 
 -- a value that is a string
 module _ (text : List ℕ) {v : Value} where

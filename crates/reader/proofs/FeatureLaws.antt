@@ -12,14 +12,14 @@ use Rattle.refusal.specs.declared.Refusal.{Refusal}
 use Rattle.refusal.specs.Refusal.{numberOf}
 use Rattle.record.specs.declared.Feature.{Feature}
 use Rattle.record.specs.Cells.{lowBit, numberIn}
-use Rattle.reader.specs.declared.CellRead.{CellRead}
-use Rattle.reader.specs.declared.NodePlace.{NodePlace}
-use Rattle.reader.specs.declared.FeatureCells.{FeatureCells}
-use Rattle.reader.specs.Nodes.{Node}
-use Rattle.reader.specs.Values.{Value, missing, value, isGiven, number, cellsOf}
-use Rattle.reader.specs.Values as values
-use Rattle.reader.specs.Features.{bitChecks, featureChecks, givenWord, featureOf}
-use Rattle.reader.specs.Resolved.{cellOf, countOf}
+use Rattle.reader.specs.declared.cell.CellRead.{CellRead}
+use Rattle.reader.specs.declared.nodes.NodePlace.{NodePlace}
+use Rattle.reader.specs.declared.feature.FeatureCells.{FeatureCells}
+use Rattle.reading.specs.Nodes.{Node}
+use Rattle.reading.specs.Values.{Value, missing, value, isGiven, number, cellsOf}
+use Rattle.reading.specs.Values as values
+use Rattle.reading.specs.Features.{bitChecks, featureChecks, givenWord, featureOf}
+use Rattle.reading.specs.Resolved.{cellOf, countOf}
 use Rattle.reader.specs.Parts.{IsNode, CellIs, Judged, ArePhandles, BitIs, PhandleIs, CountIs, CellsAre, firstOf, refusalOf, isGivenCell, featureFrom, ReadsFeature}
 use Rattle.reader.proofs.JudgedLaws.{judged-both}
 use Rattle.reader.proofs.PropertyLaws.{first-none, required-judged, optional-judged}

@@ -14,11 +14,11 @@ use Rattle.tokens.specs.Tokens.{Token, beginNode, endNode}
 use Rattle.positions.proofs.BelowLaws.{no-way}
 use Rattle.walk.specs.Walk.{nameIn, treeTokens}
 use Rattle.record.specs.Record.{mostFeatures}
-use Rattle.reader.specs.declared.Move.the-variants.{Begin, End, Pass, Stop}
-use Rattle.reader.specs.declared.NodePlace.{NodePlace}
-use Rattle.reader.specs.declared.Features.{Features}
-use Rattle.reader.specs.Nodes.{Node, node, childrenAt}
-use Rattle.reader.specs.Reading.{nodeAt}
+use Rattle.reader.specs.declared.nodes.Move.the-variants.{Begin, End, Pass, Stop}
+use Rattle.reader.specs.declared.nodes.NodePlace.{NodePlace}
+use Rattle.reader.specs.declared.nodes.Features.{Features}
+use Rattle.reading.specs.Nodes.{Node, node, childrenAt}
+use Rattle.reading.specs.Reading.{nodeAt}
 use Rattle.reader.specs.Parts.{Moved, begins, ends, passes, stops, noPlace, IsNode, AreNodes, Gathers}
 use Rattle.reader.proofs.MoveLaws.{children-past}
 

@@ -15,8 +15,8 @@ use Rattle.tokens.specs.Tokens.{Token, afterName, afterBegin}
 use Rattle.tokens.proofs.TokenList.{tokens-step, follow, view, Is, begins, ends, holds, skips, stops, cut, unknown, none}
 use Rattle.walk.specs.Walk.{nameIn, treeTokens}
 use Rattle.walk.specs.Containers.{containerName}
-use Rattle.reader.specs.Nodes.{Node, node, nodesNamed}
-use Rattle.reader.specs.Reading.{nodeAt, containersOf}
+use Rattle.reading.specs.Nodes.{Node, node, nodesNamed}
+use Rattle.reading.specs.Reading.{nodeAt, containersOf}
 use Rattle.reader.specs.Parts.{behindOf, Alike}
 use Rattle.reader.proofs.MoveLaws.{alike-behind}
 

@@ -12,9 +12,9 @@ use Rattle.tokens.specs.Tokens.{end, tokens, afterBegin}
 use Rattle.tokens.proofs.TokenList.{tokens-step, follow, view, Is, begins as isBegin, ends as isEnd, holds, skips, stops as isStop, cut, unknown, none, seen, property-moves, nop-moves, end-node-moves}
 use Rattle.header.specs.declared.Blocks.{Blocks}
 use Rattle.walk.specs.Walk.{nameIn, treeTokens}
-use Rattle.reader.specs.declared.Move.the-variants.{Begin, End as EndMove, Pass, Stop}
-use Rattle.reader.specs.Nodes.{childrenAt}
-use Rattle.reader.specs.Values.{valueIn}
+use Rattle.reader.specs.declared.nodes.Move.the-variants.{Begin, End as EndMove, Pass, Stop}
+use Rattle.reading.specs.Nodes.{childrenAt}
+use Rattle.reading.specs.Values.{valueIn}
 use Rattle.reader.specs.Parts.{behindOf, Alike, Moved, begins, ends, passes, stops}
 use Rattle.reader.proofs.ValueLaws.{value-past}
 

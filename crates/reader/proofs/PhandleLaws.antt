@@ -11,12 +11,12 @@ use lib.ListN.{length, getD, replicate, length-map, List·getD-append}
 use Rattle.cells.specs.Rows.{padded}
 use Rattle.tokens.specs.Steps.{pick}
 use Rattle.record.specs.Record.{mostFeatures}
-use Rattle.reader.specs.Nodes.{Node}
-use Rattle.reader.specs.Values.{Value, missing, value, valueOf}
-use Rattle.reader.specs.Features.{isCarried, carries}
-use Rattle.reader.specs.Dependencies.{Carrier, nowhere, position, carrierFrom, carrier}
-use Rattle.reader.specs.Resolved.{cellOf}
-use Rattle.reader.specs.Reading.{nodeAt}
+use Rattle.reading.specs.Nodes.{Node}
+use Rattle.reading.specs.Values.{Value, missing, value, valueOf}
+use Rattle.reading.specs.Features.{isCarried, carries}
+use Rattle.reading.specs.Dependencies.{Carrier, nowhere, position, carrierFrom, carrier}
+use Rattle.reading.specs.Resolved.{cellOf}
+use Rattle.reading.specs.Reading.{nodeAt}
 use Rattle.reader.specs.Parts.{FirstThat, notedCell, notedOf, notedAt, ArePhandles}
 
 -- what a row has of the node at an index

@@ -20,16 +20,16 @@ use Rattle.refusal.specs.Refusal.{fault, numberOf}
 use Rattle.refusal.specs.Checks.{check}
 use Rattle.record.specs.declared.Cell.{Cell}
 use Rattle.record.specs.declared.Cell.the-variants.{Absent, Given}
-use Rattle.reader.specs.declared.CellRead.{CellRead}
-use Rattle.reader.specs.Nodes.{Node}
-use Rattle.reader.specs.Values.{Value, missing, value, isCellOrMissing, number}
-use Rattle.reader.specs.Features.{some, carries, isPhandle, isRepeated, phandleChecks}
-use Rattle.reader.specs.Reading.{nodeAt}
-use Rattle.reader.specs.Resolved.{cellOf}
+use Rattle.reader.specs.declared.cell.CellRead.{CellRead}
+use Rattle.reading.specs.Nodes.{Node}
+use Rattle.reading.specs.Values.{Value, missing, value, isCellOrMissing, number}
+use Rattle.reading.specs.Features.{some, carries, isPhandle, isRepeated, phandleChecks}
+use Rattle.reading.specs.Reading.{nodeAt}
+use Rattle.reading.specs.Resolved.{cellOf}
 use Rattle.reader.specs.Parts.{badCell, CellIs, inRange, Judged, FirstThat, notedAt, ArePhandles, PhandleIs, firstOf}
-use Rattle.reader.proofs.CellRead.{the-type}
+use Rattle.reader.proofs.cell.CellRead.{the-type}
 use Rattle.reader.proofs.JudgedLaws.{judged-both}
-use Rattle.reader.proofs.Carriers.{some-none}
+use Rattle.reading.proofs.Carriers.{some-none}
 use Rattle.reader.proofs.PhandleLaws.{noted-carries}
 use Rattle.reader.proofs.PropertyLaws.{first-right, first-none, judged-pick, form-judged}
 use Rattle.reader.proofs.RangeLaws.{outOf, Ranged, ranged}

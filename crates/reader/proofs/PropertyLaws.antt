@@ -15,10 +15,10 @@ use Rattle.refusal.specs.Refusal.{fault, numberOf}
 use Rattle.refusal.specs.Checks.{check}
 use Rattle.record.specs.declared.Cell.the-variants.{Absent, Given}
 use Rattle.record.specs.Record.{mostDependencies}
-use Rattle.reader.specs.declared.CellRead.{CellRead}
-use Rattle.reader.specs.Values.{Value, missing, value, isGiven, isCellOrMissing, isCells, cellsOf}
-use Rattle.reader.specs.Features.{requiredChecks, optionalChecks}
-use Rattle.reader.specs.Resolved.{countOf}
+use Rattle.reader.specs.declared.cell.CellRead.{CellRead}
+use Rattle.reading.specs.Values.{Value, missing, value, isGiven, isCellOrMissing, isCells, cellsOf}
+use Rattle.reading.specs.Features.{requiredChecks, optionalChecks}
+use Rattle.reading.specs.Resolved.{countOf}
 use Rattle.reader.specs.Parts.{Lies, badCell, cellFault, CellIs, Judged, CountIs, firstOf}
 use Rattle.reader.proofs.JudgedLaws.{judged-check, judged-both}
 use Rattle.reader.proofs.CellReadLaws.{long}

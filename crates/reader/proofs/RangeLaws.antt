@@ -14,9 +14,9 @@ use Rattle.refusal.specs.Refusal.{fault, numberOf}
 use Rattle.refusal.specs.Checks.{check}
 use Rattle.record.specs.declared.Cell.the-variants.{Absent}
 use Rattle.record.specs.Record.{highestBit}
-use Rattle.reader.specs.declared.CellRead.{CellRead}
-use Rattle.reader.specs.Values.{Value, missing, value, number}
-use Rattle.reader.specs.Resolved.{cellOf}
+use Rattle.reader.specs.declared.cell.CellRead.{CellRead}
+use Rattle.reading.specs.Values.{Value, missing, value, number}
+use Rattle.reading.specs.Resolved.{cellOf}
 use Rattle.reader.specs.Parts.{badCell, cellFault, CellIs, inRange, Judged, BitIs, firstOf}
 use Rattle.reader.proofs.JudgedLaws.{judged-check, judged-both}
 use Rattle.reader.proofs.CellReadLaws.{range-refused, range-absent, range-below, range-above, range-within}

@@ -15,26 +15,26 @@ use Rattle.record.specs.declared.Record.{Record}
 use Rattle.record.specs.Record.{mostFeatures, noFeatures}
 use Rattle.walk.specs.declared.Containers.{Containers}
 use Rattle.walk.specs.Containers.{firstTwo}
-use Rattle.reader.specs.declared.Features.{Features}
-use Rattle.reader.specs.declared.CellRead.{CellRead}
-use Rattle.reader.specs.Nodes.{Node, childrenAt, children}
-use Rattle.reader.specs.Values.{Value, missing, value, valueOf, number}
-use Rattle.reader.specs.Features.{inOrder, nameChecks, featureChecks}
-use Rattle.reader.specs.Dependencies.{carrierChecks}
-use Rattle.reader.specs.Reading.{nodeAt, containersOf, containerChecks, containerProperties, countChecks, readChecks, recordOf, readAccepted}
-use Rattle.reader.specs.Ends.{AllHold, FirstFailing}
+use Rattle.reader.specs.declared.nodes.Features.{Features}
+use Rattle.reader.specs.declared.cell.CellRead.{CellRead}
+use Rattle.reading.specs.Nodes.{Node, childrenAt, children}
+use Rattle.reading.specs.Values.{Value, missing, value, valueOf, number}
+use Rattle.reading.specs.Features.{inOrder, nameChecks, featureChecks}
+use Rattle.reading.specs.Dependencies.{carrierChecks}
+use Rattle.reading.specs.Reading.{nodeAt, containersOf, containerChecks, containerProperties, countChecks, readChecks, recordOf, readAccepted}
+use Rattle.reading.specs.Ends.{AllHold, FirstFailing}
 use Rattle.reader.specs.Parts.{behindOf, Alike, noPlace, sameNames, FirstRepeated, Gathers, AtPlaces, ContainerIs, ReadsContainer, Contains, readFeatures}
-use Rattle.reader.specs.Resolved.{cellOf}
+use Rattle.reading.specs.Resolved.{cellOf}
 use Rattle.record.specs.Cells.{numberIn}
 use Rattle.walk.specs.Walk.{nameIn, treeTokens}
 use Rattle.walk.specs.Containers.{containerName}
-use Rattle.reader.proofs.Places.{node-within, children-within, containers-within}
-use Rattle.reader.proofs.Containers.{offsets}
+use Rattle.reading.proofs.Places.{node-within, children-within, containers-within}
+use Rattle.reading.proofs.Containers.{offsets}
 use Rattle.reader.proofs.GatherLaws.{node-seam}
 use Rattle.reader.proofs.Located.{Located, containers-located}
 use Rattle.reader.proofs.RepeatLaws.{names-differ, names-repeat}
-use Rattle.reader.proofs.JudgedLaws.{fail-left, fail-right, fail-here, hold-skips, fail-decides}
-use Rattle.reader.proofs.WalkedLaws.{Walked}
+use Rattle.reading.proofs.CheckLaws.{fail-left, fail-right, fail-here, hold-skips, fail-decides}
+use Rattle.reading.proofs.WalkedLaws.{Walked}
 
 -- the checks, those of the container first
 offset-at : (ns : List Node) (i : ℕ) → nodeAt ns i .at ≡ getD (offsets ns) i 0

@@ -15,24 +15,24 @@ use Rattle.header.specs.declared.Blocks.{Blocks}
 use Rattle.header.specs.Header.{largestTree}
 use Rattle.record.specs.declared.Property.the-variants.{Phandle}
 use Rattle.record.specs.Cells.{cell}
-use Rattle.reader.specs.Resolved.{cellIn}
-use Rattle.reader.proofs.Cells.{cell-read}
+use Rattle.reading.specs.Resolved.{cellIn}
+use Rattle.reading.proofs.Cells.{cell-read}
 use Rattle.record.specs.declared.Record.{Record}
 use Rattle.record.specs.declared.Feature.{Feature}
 use Rattle.record.specs.Record.{mostFeatures, mostDependencies, noFeature, noFeatures}
-use Rattle.reader.specs.declared.Features.{Features}
-use Rattle.reader.specs.declared.FeatureRead.{FeatureRead}
-use Rattle.reader.specs.declared.FeaturesRead.{FeaturesRead}
-use Rattle.reader.specs.declared.SlotsRead.{SlotsRead}
-use Rattle.reader.specs.Nodes.{Node, children}
-use Rattle.reader.specs.Values.{valueOf, cellsOf}
-use Rattle.reader.specs.Features.{inOrder, featureChecks, featureOf}
-use Rattle.reader.specs.Dependencies.{carrierChecks}
-use Rattle.reader.specs.Reading.{nodeAt, recordOf}
-use Rattle.reader.specs.Ends.{AllHold}
+use Rattle.reader.specs.declared.nodes.Features.{Features}
+use Rattle.reader.specs.declared.feature.FeatureRead.{FeatureRead}
+use Rattle.reader.specs.declared.feature.FeaturesRead.{FeaturesRead}
+use Rattle.reader.specs.declared.dependencies.SlotsRead.{SlotsRead}
+use Rattle.reading.specs.Nodes.{Node, children}
+use Rattle.reading.specs.Values.{valueOf, cellsOf}
+use Rattle.reading.specs.Features.{inOrder, featureChecks, featureOf}
+use Rattle.reading.specs.Dependencies.{carrierChecks}
+use Rattle.reading.specs.Reading.{nodeAt, recordOf}
+use Rattle.reading.specs.Ends.{AllHold}
 use Rattle.reader.specs.Parts.{noPlace, notedCell, notedOf, ArePhandles, AreFeatures, FeatureIs, ReadsFeature, AtPlaces, FeaturesAre, Known, SlotsAre, Contains, readFeatures}
-use Rattle.reader.proofs.JudgedLaws.{hold-both, fail-left, fail-right, hold-decide, fail-decides}
-use Rattle.reader.proofs.OrderLaws.{order-holds, order-fails}
+use Rattle.reading.proofs.CheckLaws.{hold-both, fail-left, fail-right, hold-decide, fail-decides}
+use Rattle.reading.proofs.OrderLaws.{order-holds, order-fails}
 
 -- a list of nodes with one more
 take-node : (nodes : List Node) (i : ℕ) → i < length nodes → take (suc i) nodes ≡ take i nodes ++ nodeAt nodes i ∷ []

@@ -9,15 +9,15 @@ use lib.Seq.{length-take-le}
 use Rattle.header.specs.declared.Blocks.{Blocks}
 use Rattle.names.specs.Names.{sameText}
 use Rattle.positions.proofs.BelowLaws.{no-way}
-use Rattle.reader.specs.declared.Features.{Features}
-use Rattle.reader.specs.Nodes.{Node}
-use Rattle.reader.specs.Features.{inOrder, some, nameChecks}
-use Rattle.reader.specs.Reading.{nodeAt}
-use Rattle.reader.specs.Ends.{AllHold, FirstFailing}
+use Rattle.reader.specs.declared.nodes.Features.{Features}
+use Rattle.reading.specs.Nodes.{Node}
+use Rattle.reading.specs.Features.{inOrder, some, nameChecks}
+use Rattle.reading.specs.Reading.{nodeAt}
+use Rattle.reading.specs.Ends.{AllHold, FirstFailing}
 use Rattle.reader.specs.Parts.{noPlace, sameNames, FirstRepeated, AtPlaces}
-use Rattle.reader.proofs.Carriers.{node-before, some-none}
-use Rattle.reader.proofs.JudgedLaws.{fail-here}
-use Rattle.reader.proofs.OrderLaws.{order-holds, order-fails}
+use Rattle.reading.proofs.Carriers.{node-before, some-none}
+use Rattle.reading.proofs.CheckLaws.{fail-here}
+use Rattle.reading.proofs.OrderLaws.{order-holds, order-fails}
 
 -- one of some nodes passes a test, or none
 none-pass : (q : Node → Bool) (ns : List Node) → ((j : ℕ) → j < length ns → q (nodeAt ns j) ≡ false) → some q ns ≡ false

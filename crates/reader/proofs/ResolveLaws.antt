@@ -15,19 +15,19 @@ use Rattle.walk.specs.Walk.{treeTokens}
 use Rattle.refusal.specs.declared.Refusal.the-variants.{None, UnknownPhandle}
 use Rattle.record.specs.declared.Feature.{Feature}
 use Rattle.record.specs.Record.{mostFeatures, mostDependencies, slotCount, noFeature}
-use Rattle.reader.specs.declared.Features.{Features}
-use Rattle.reader.specs.declared.FeaturesRead.{FeaturesRead}
-use Rattle.reader.specs.Nodes.{Node}
-use Rattle.reader.specs.Values.{valueIn, cellsOf}
-use Rattle.reader.specs.Features.{featureOf}
-use Rattle.reader.specs.Dependencies.{carrierChecks, slotsOf}
-use Rattle.reader.specs.Reading.{nodeAt}
-use Rattle.reader.specs.Accepted.{dependenciesOf}
-use Rattle.reader.specs.Ends.{AllHold, FirstFailing}
+use Rattle.reader.specs.declared.nodes.Features.{Features}
+use Rattle.reader.specs.declared.feature.FeaturesRead.{FeaturesRead}
+use Rattle.reading.specs.Nodes.{Node}
+use Rattle.reading.specs.Values.{valueIn, cellsOf}
+use Rattle.reading.specs.Features.{featureOf}
+use Rattle.reading.specs.Dependencies.{carrierChecks, slotsOf}
+use Rattle.reading.specs.Reading.{nodeAt}
+use Rattle.reading.specs.Accepted.{dependenciesOf}
+use Rattle.reading.specs.Ends.{AllHold, FirstFailing}
 use Rattle.reader.specs.Parts.{noPlace, CellsLie, Resolves, ResolvesCells, Known, SomeKnown, ResolvesAll}
-use Rattle.reader.proofs.Carriers.{node-split}
+use Rattle.reading.proofs.Carriers.{node-split}
 use Rattle.reader.proofs.PhandleLaws.{row-at}
-use Rattle.reader.proofs.SlotRowLaws.{take-node, hold-last, fail-at, slots-longer, slots-last}
+use Rattle.reading.proofs.SlotRowLaws.{take-node, hold-last, fail-at, slots-longer, slots-last}
 
 -- the slots of the first features
 pub record FirstResolved (nodes first : List Node) (i : ℕ) (slots : List ℕ) : Type 0 where

@@ -8,7 +8,7 @@ use native.Mathlib.Decide.{decLt}
 use lib.ListN.{getD}
 use Rattle.cells.specs.Strings.{textAt}
 use Rattle.names.specs.Names.{sameText}
-use Rattle.reader.specs.declared.NodePlace.{NodePlace}
+use Rattle.reader.specs.declared.nodes.NodePlace.{NodePlace}
 use Rattle.reader.specs.Parts.{noPlace, sameNames, FirstRepeated}
 
 -- the test of two names, as the code makes it

@@ -13,7 +13,7 @@ use Rattle.tokens.specs.declared.Step.the-variants.{BeginNode, EndNode, Propert
 use Rattle.tokens.specs.Steps.{padded, stepAt}
 use Rattle.tokens.specs.Tokens.{tokens}
 use Rattle.tokens.proofs.TokenList.{tokens-step, follow, view, Is, begins, ends, holds, skips, stops, cut, unknown, none, seen}
-use Rattle.reader.specs.Values.{Value, missing, valueIn}
+use Rattle.reading.specs.Values.{Value, missing, valueIn}
 use Rattle.reader.specs.Parts.{Lies}
 
 value-within : {s : List ℕ} {stop at p v l o : ℕ} {c : Cursor} → Is s stop at (Property p v l o c) → v + l ≤ stop

@@ -1,10 +1,2 @@
-pub mod Nodes
-pub mod Values
-pub mod Features
-pub mod Dependencies
-pub mod Reading
-pub mod Accepted
-pub mod Resolved
-pub mod Ends
-pub mod Example
+pub mod Outcome
 pub mod Parts

@@ -19,13 +19,13 @@ use Rattle.record.specs.Record.{mostFeatures, mostDependencies, slotCount, noFe
 use Rattle.record.specs.Cells.{cell, lowBit, numberIn}
 use Rattle.characters.specs.Characters.{bytes}
 use Rattle.positions.specs.Below.{oneIf}
-use Rattle.reader.specs.declared.Move.{Move}
-use Rattle.reader.specs.declared.Move.the-variants.{Begin, End, Pass, Stop}
-use Rattle.reader.specs.declared.NodePlace.{NodePlace}
-use Rattle.reader.specs.declared.Features.{Features}
-use Rattle.reader.specs.declared.Held.{Held}
-use Rattle.reader.specs.declared.Held.the-variants.{Missing, At}
-use Rattle.reader.specs.Nodes.{Node, childrenAt, children}
+use Rattle.reader.specs.declared.nodes.Move.{Move}
+use Rattle.reader.specs.declared.nodes.Move.the-variants.{Begin, End, Pass, Stop}
+use Rattle.reader.specs.declared.nodes.NodePlace.{NodePlace}
+use Rattle.reader.specs.declared.nodes.Features.{Features}
+use Rattle.reader.specs.declared.nodes.Held.{Held}
+use Rattle.reader.specs.declared.nodes.Held.the-variants.{Missing, At}
+use Rattle.reading.specs.Nodes.{Node, childrenAt, children}
 use Rattle.refusal.specs.Refusal.{Fault, Placed, placed, refuseAt, numberOf}
 use Rattle.refusal.specs.Checks.{Check, firstFault}
 use Rattle.refusal.specs.declared.Refusal.{Refusal}
@@ -34,17 +34,17 @@ use Rattle.record.specs.declared.Cell.{Cell}
 use Rattle.record.specs.declared.Cell.the-variants.{Absent, Given}
 use Rattle.tokens.specs.Steps.{pick}
 use lib.Dec.{eqb, ltb}
-use Rattle.reader.specs.declared.CellRead.{CellRead}
-use Rattle.reader.specs.Resolved.{cellOf, countOf}
-use Rattle.reader.specs.Reading.{nodeAt, containerProperties, recordOf}
-use Rattle.reader.specs.Values.{Value, missing, value, valueIn, valueOf, number, cellsOf}
-use Rattle.reader.specs.Features.{inOrder, bitChecks, phandleChecks, dependenciesChecks, featureChecks, featureOf}
-use Rattle.reader.specs.Dependencies.{carrier, slotOf, cellChecks, carrierChecks, slotsOf}
-use Rattle.reader.specs.Ends.{AllHold, FirstFailing}
-use Rattle.reader.specs.declared.FeatureCells.{FeatureCells}
-use Rattle.reader.specs.declared.FeatureRead.{FeatureRead}
-use Rattle.reader.specs.declared.FeaturesRead.{FeaturesRead}
-use Rattle.reader.specs.declared.SlotsRead.{SlotsRead}
+use Rattle.reader.specs.declared.cell.CellRead.{CellRead}
+use Rattle.reading.specs.Resolved.{cellOf, countOf}
+use Rattle.reading.specs.Reading.{nodeAt, containerProperties, recordOf}
+use Rattle.reading.specs.Values.{Value, missing, value, valueIn, valueOf, number, cellsOf}
+use Rattle.reading.specs.Features.{inOrder, bitChecks, phandleChecks, dependenciesChecks, featureChecks, featureOf}
+use Rattle.reading.specs.Dependencies.{carrier, slotOf, cellChecks, carrierChecks, slotsOf}
+use Rattle.reading.specs.Ends.{AllHold, FirstFailing}
+use Rattle.reader.specs.declared.feature.FeatureCells.{FeatureCells}
+use Rattle.reader.specs.declared.feature.FeatureRead.{FeatureRead}
+use Rattle.reader.specs.declared.feature.FeaturesRead.{FeaturesRead}
+use Rattle.reader.specs.declared.dependencies.SlotsRead.{SlotsRead}
 
 -- where a value lies in a tree
 pub record Lies (tree : List ℕ) (v : Value) (from size : ℕ) : Type 0 where

@@ -2,7 +2,7 @@
 use borrow.Author.Needs.{needs}
 use mathlib.Core.Path.{sym, _∙_}
 use native.Mathlib.Omega.{arith}
-use Rattle.reader.proofs.WalkedLaws.{walked}
+use Rattle.reading.proofs.WalkedLaws.{walked}
 use Rattle.reader.proofs.ReadingLaws.{none-found, two-found, first-within, container-refused, too-many, name-repeated, contained, all-read}
 use Rattle.reader.proofs.read_container.Statement.{statement}
 use Rattle.reader.proofs.read_container.Tie as tie

@@ -1,7 +1,7 @@
 -- `reader::read_record` meets its contract. Assumes nothing.
 use borrow.Author.Needs.{needs}
 use mathlib.Core.Path.{sym, _∙_}
-use Rattle.reader.proofs.WalkedLaws.{walk-refused, walk-accepted, after-accepted}
+use Rattle.reading.proofs.WalkedLaws.{walk-refused, walk-accepted, after-accepted}
 use Rattle.reader.proofs.read_record.Statement.{statement}
 use Rattle.reader.proofs.read_record.Tie as tie
 

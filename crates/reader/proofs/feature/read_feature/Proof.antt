@@ -1,0 +1,21 @@
+-- `reader::feature::read_feature` meets its contract. Assumes nothing.
+use Rattle.reader.proofs.FeatureLaws.{feature-is}
+use borrow.Author.Needs.{needs}
+use Rattle.reader.proofs.feature.read_feature.Statement.{statement}
+use Rattle.reader.proofs.feature.read_feature.Tie as tie
+
+read-cells-requires : tie.Need-read-cells-requires
+read-cells-requires c κs = search needs
+
+refusal-of-requires : tie.Need-refusal-of-requires
+refusal-of-requires c κs = search needs
+
+feature-of-requires : tie.Need-feature-of-requires
+feature-of-requires c κs = search needs
+
+returns : tie.Need-returns
+returns c = feature-is (c .before .before .read-cells .ensures) (c .before .refusal-of .ensures) (c .feature-of .ensures)
+
+pub read-feature-spec : {M : Type 1} → statement M
+read-feature-spec =
+    tie.close (tie.spec read-cells-requires refusal-of-requires feature-of-requires returns)

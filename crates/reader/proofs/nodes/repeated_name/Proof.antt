@@ -1,0 +1,109 @@
+-- `reader::nodes::repeated_name` meets its contract. Assumes nothing.
+use borrow.Author.Needs.{needs}
+use mathlib.Core.Path.{_≡_, refl, sym, _∙_}
+use native.Mathlib.Omega.{arith}
+use Prim.Native.Nat.{_-_, _≤_}
+use lib.ListN.{getD}
+use Rattle.record.specs.Record.{mostFeatures}
+use Rattle.reader.specs.Parts.{noPlace, sameNames}
+use Rattle.reader.proofs.SearchLaws.{same-is, Searched, Compared, search-begins, row-begins, row-more, row-done, search-found, search-none}
+use Rattle.reader.proofs.nodes.repeated_name.Statement.{statement}
+use Rattle.reader.proofs.nodes.repeated_name.Tie as tie
+
+abbrev Inv-loop : tie.InvT-loop
+Inv-loop tree fs end found₀ i p j₀ found j =
+    (fs .count ≤ mostFeatures)
+    × (found ≡ fs .count)
+    × (p ≡ getD (fs .nodes) i noPlace)
+    × Compared (sameNames tree end (fs .nodes)) (fs .count) i j
+
+abbrev μ-loop : tie.MeasureT-loop
+μ-loop tree fs end found₀ i p j₀ found j = i - j
+
+abbrev Inv-search : tie.InvT-search
+Inv-search tree fs end found₀ i₀ found i =
+    (fs .count ≤ mostFeatures) × (found ≡ fs .count) × Searched (sameNames tree end (fs .nodes)) (fs .count) i
+
+abbrev μ-search : tie.MeasureT-search
+μ-search tree fs end found₀ i₀ found i = fs .count - i
+
+search-holds : tie.Need-search-holds Inv-loop μ-loop Inv-search μ-search
+search-holds c = (c .before .pre, refl, search-begins _ _)
+
+mul-p : tie.Need-mul-p Inv-loop μ-loop Inv-search μ-search
+mul-p c = search needs
+
+element-copy-out-p : tie.Need-element-copy-out-p Inv-loop μ-loop Inv-search μ-search
+element-copy-out-p c = omega (arith, c .before .search .inv .0)
+
+loop-holds : tie.Need-loop-holds Inv-loop μ-loop Inv-search μ-search
+loop-holds c =
+    let s = c .before .before .search .inv in
+    (s .0, s .1, refl, row-begins _ _ (s .2) (omega arith))
+
+mul-q : tie.Need-mul-q Inv-loop μ-loop Inv-search μ-search
+mul-q c = search needs
+
+element-copy-out-q : tie.Need-element-copy-out-q Inv-loop μ-loop Inv-search μ-search
+element-copy-out-q c =
+    let l = c .before .loop .inv in
+    omega (arith, l .0, l .3 .row)
+
+same-name-requires : tie.Need-same-name-requires Inv-loop μ-loop Inv-search μ-search
+same-name-requires c κs = search needs
+
+add-j : tie.Need-add-j Inv-loop μ-loop Inv-search μ-search
+add-j c = search needs
+
+loop-less : tie.Need-loop-less Inv-loop μ-loop Inv-search μ-search
+loop-less c = search needs
+
+loop-again : tie.Need-loop-again Inv-loop μ-loop Inv-search μ-search
+loop-again c =
+    let l = c .before .before .before .before .loop .inv in
+    (l .0, l .1, l .2, row-more _ _ (l .3) (omega arith) (sym (same-is _ _ _ _ _ (l .2) (c .before .same-name .ensures)) ∙ c .if1 .left))
+
+add-i : tie.Need-add-i Inv-loop μ-loop Inv-search μ-search
+add-i c = search needs
+
+search-less : tie.Need-search-less Inv-loop μ-loop Inv-search μ-search
+search-less c = search needs
+
+search-again : tie.Need-search-again Inv-loop μ-loop Inv-search μ-search
+search-again c =
+    let l = c .before .loop .inv in
+    (l .0, l .1, row-done _ _ (l .3) (omega arith))
+
+returns : tie.Need-returns Inv-loop μ-loop Inv-search μ-search
+returns c =
+    let s = c .before .search .inv in
+    search-none _ _ (s .2) (omega arith) (s .1)
+
+returns-2 : tie.Need-returns-2 Inv-loop μ-loop Inv-search μ-search
+returns-2 c =
+    let l = c .before .before .before .before .loop .inv in
+    search-found _ _ _ (l .3) (omega arith) (sym (same-is _ _ _ _ _ (l .2) (c .before .same-name .ensures)) ∙ c .if1 .taken)
+
+pub repeated-name-spec : {M : Type 1} → statement M
+repeated-name-spec =
+    tie.close
+    (tie.spec
+    Inv-loop
+    μ-loop
+    Inv-search
+    μ-search
+    search-holds
+    mul-p
+    element-copy-out-p
+    loop-holds
+    mul-q
+    element-copy-out-q
+    same-name-requires
+    add-j
+    loop-less
+    loop-again
+    add-i
+    search-less
+    search-again
+    returns
+    returns-2)

@@ -1,0 +1,228 @@
+// Nodes in a tree: the value of a property, the direct children.
+use cells::Ending;
+use header::Blocks;
+use properties::StringsBlock;
+use record::MOST_FEATURES;
+use tokens::Cursor;
+use tokens::Step;
+ghost use mathlib.Core.Path.{_≡_};
+ghost use Prim.Native.Nat.{_+_, _≤_, _<_};
+ghost use lib.ListN.{length as length-of};
+ghost use Rattle.cells.specs.Strings.{textAt};
+ghost use Rattle.header.specs.Header.{largestTree};
+ghost use Rattle.record.specs.Record.{mostFeatures};
+ghost use Rattle.walk.specs.Walk.{treeTokens};
+ghost use Rattle.reading.specs.Nodes.{childrenAt};
+ghost use Rattle.reading.specs.Values.{valueIn};
+ghost use Rattle.reader.specs.Parts.{Shows, behindOf, Moved, Gathers, sameNames, FirstRepeated};
+
+// What a node has of a property: nothing, or where its value begins and how many bytes it has.
+pub(crate) enum Held {
+    Missing,
+    At { from: usize, length: usize },
+}
+
+// A token of a node's contents: a child begins, with where its name begins and what is behind its begin token; a node ends; something
+// else, passed; or there is no more.
+pub(crate) enum Move {
+    Begin { at: usize, name: usize, next: usize },
+    End(usize),
+    Pass(usize),
+    Stop,
+}
+
+// A node: its begin token's offset, and where its name and the tokens behind it begin.
+pub(crate) struct NodePlace {
+    pub(crate) at: usize,
+    pub(crate) name: usize,
+    pub(crate) behind: usize,
+}
+
+// The features of a container, in tree order: at most 64, whether there is one more, and where that begins.
+pub(crate) struct Features {
+    pub(crate) count: usize,
+    pub(crate) more: bool,
+    pub(crate) over: usize,
+    pub(crate) nodes: [NodePlace; MOST_FEATURES],
+}
+
+// The value of the property of a name, among those that begin at `first`.
+pub(crate) fn value_of(tree: &[u8], b: Blocks, first: usize, name: &[u8]) -> Held
+    requires { ⌜ b .end ≤ length-of (now tree) ⌝ }
+    ensures { λ r.
+        ⌜ Shows (now (tree .entry)) (valueIn (now (name .entry)) (treeTokens (now (tree .entry)) b first)) r ⌝ }
+{
+    let end = b.end;
+    let strings = StringsBlock {
+        from: b.strings,
+        limit: b.limit,
+    };
+    let mut at = first;
+    while at < end {
+        let c = Cursor { at };
+        let step = c.step(tree, end);
+        match step {
+            Step::Property {
+                at: _,
+                value,
+                length,
+                name: offset,
+                next,
+            } => {
+                if properties::is_named(tree, strings, offset, name) {
+                    return Held::At {
+                        from: value,
+                        length,
+                    };
+                }
+                at = next.at;
+            }
+            Step::Nop { at: _, next } => {
+                at = next.at;
+            }
+            Step::BeginNode { at: _, name: _ } => {
+                return Held::Missing;
+            }
+            Step::EndNode { at: _, next: _ } => {
+                return Held::Missing;
+            }
+            Step::End { at: _ } => {
+                return Held::Missing;
+            }
+            Step::Fault { at: _ } => {
+                return Held::Missing;
+            }
+        }
+    }
+    Held::Missing
+}
+
+// Where the tokens behind a begin token begin, if its name begins at `from`; the block's end, if the name does not end.
+fn behind(tree: &[u8], end: usize, from: usize) -> usize
+    ensures { λ r. ⌜ r ≡ behindOf from end (textAt (now (tree .entry)) from end) ⌝ }
+{
+    let ending = cells::text_end(tree, from, end);
+    match ending {
+        Ending::At(zero) => from + ((zero - from) / 4 + 1) * 4,
+        Ending::Nowhere => end,
+    }
+}
+
+// What is behind the begin token at a place of the structure block.
+pub(crate) fn contents(tree: &[u8], b: Blocks, at: usize) -> usize
+    requires { ⌜ (at < b .end) × (b .end ≤ largestTree) ⌝ }
+    ensures { λ r. ⌜ r ≡ behindOf (at + 4) (b .end) (textAt (now (tree .entry)) (at + 4) (b .end)) ⌝ }
+{
+    behind(tree, b.end, at + 4)
+}
+
+fn move_at(tree: &[u8], b: Blocks, at: usize) -> Move
+    requires { ⌜ at < b .end ⌝ }
+    ensures { λ r. ⌜ Moved (now (tree .entry)) b at r ⌝ }
+{
+    let end = b.end;
+    let c = Cursor { at };
+    let step = c.step(tree, end);
+    match step {
+        Step::BeginNode { at: t, name } => Move::Begin {
+            at: t,
+            name: name.at,
+            next: behind(tree, end, name.at),
+        },
+        Step::EndNode { at: _, next } => Move::End(next.at),
+        Step::Property {
+            at: _,
+            value: _,
+            length: _,
+            name: _,
+            next,
+        } => Move::Pass(next.at),
+        Step::Nop { at: _, next } => Move::Pass(next.at),
+        Step::End { at: _ } => Move::Stop,
+        Step::Fault { at: _ } => Move::Stop,
+    }
+}
+
+// The direct children of a node whose contents begin at `first`.
+pub(crate) fn features_of(tree: &[u8], b: Blocks, first: usize) -> Features
+    ensures { λ r.
+        ⌜ Gathers (now (tree .entry)) b (childrenAt 0 (treeTokens (now (tree .entry)) b first)) r ⌝ }
+{
+    let none = NodePlace {
+        at: 0,
+        name: 0,
+        behind: 0,
+    };
+    let mut fs = Features {
+        count: 0,
+        more: false,
+        over: 0,
+        nodes: [none; MOST_FEATURES],
+    };
+    let mut depth: usize = 0;
+    let mut at = first;
+    while at < b.end {
+        let moved = move_at(tree, b, at);
+        match moved {
+            Move::Begin { at: t, name, next } => {
+                if depth != 0 {
+                    depth += 1;
+                    at = next;
+                } else if MOST_FEATURES <= fs.count {
+                    fs.more = true;
+                    fs.over = t;
+                    return fs;
+                } else {
+                    let n = fs.count;
+                    fs.nodes[n] = NodePlace {
+                        at: t,
+                        name,
+                        behind: next,
+                    };
+                    fs.count = n + 1;
+                    depth = 1;
+                    at = next;
+                }
+            }
+            Move::End(next) => {
+                if depth == 0 {
+                    return fs;
+                }
+                depth -= 1;
+                at = next;
+            }
+            Move::Pass(next) => {
+                at = next;
+            }
+            Move::Stop => {
+                return fs;
+            }
+        }
+    }
+    fs
+}
+
+// Document 01: "the first earlier feature with the same name ends the search". The first position whose feature has the name of an
+// earlier one; the count where there is none.
+pub(crate) fn repeated_name(tree: &[u8], b: Blocks, fs: Features) -> usize
+    requires { ⌜ fs .count ≤ mostFeatures ⌝ }
+    ensures { λ r. ⌜ FirstRepeated (sameNames (now (tree .entry)) (b .end) (fs .nodes)) (fs .count) r ⌝ }
+{
+    let end = b.end;
+    let mut found = fs.count;
+    let mut i: usize = 0;
+    'search: while i < fs.count {
+        let p = fs.nodes[i];
+        let mut j: usize = 0;
+        while j < i {
+            let q = fs.nodes[j];
+            if names::same_name(tree, q.name, p.name, end) {
+                found = i;
+                break 'search;
+            }
+            j += 1;
+        }
+        i += 1;
+    }
+    found
+}

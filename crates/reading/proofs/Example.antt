@@ -1,0 +1,26 @@
+-- Document 01's five features: antt computes the record that its tree is read as. Assumes nothing.
+use mathlib.Core.Path.{_≡_, refl}
+use Rattle.refusal.specs.Refusal.{placed}
+use Rattle.refusal.specs.Checks.{firstFault}
+use Rattle.characters.specs.Characters.{isNodeCharacter, isPropertyCharacter}
+use Rattle.cells.specs.Cells.{cellAt}
+use Rattle.cells.specs.Strings.{textOf, textAt, sameBytes, isString}
+use Rattle.names.specs.Names.{every, atSigns, firstIsPlain, lastIsPlain, nodeCharacters, isNodeName, isPropertyName, isRootName, sameText}
+use Rattle.header.specs.Header.{blockChecks, headerChecks, blocksOf, header}
+use Rattle.tokens.specs.Tokens.{tokensFrom, tokens}
+use Rattle.tokens.specs.Steps.{padded, propertyAt, stepAt}
+use Rattle.properties.specs.Properties.{nameAt, among}
+use Rattle.walk.specs.Checked.{layoutOf, checkTree}
+use Rattle.walk.specs.Walk.{step, walk}
+use Rattle.walk.specs.Containers.{containerOffsets, firstTwo}
+use Rattle.positions.specs.Bits.{bit}
+use Rattle.reading.specs.Features.{inOrder, some, featureChecks, givenWord, featureOf}
+use Rattle.reading.specs.Reading.{nodeAt, readChecks, recordOf, readRecord}
+use Rattle.reading.specs.Example.{exampleTree, exampleRecord}
+use Rattle.reading.specs.Dependencies.{carrierFrom, cellChecks, carrierChecks, slotsOf}
+use Rattle.reading.specs.Values.{valueIn}
+use Rattle.reading.specs.Nodes.{nodesNamed, childrenAt}
+
+pub example-read : readRecord exampleTree ≡ placed exampleRecord
+unfolding firstFault isNodeCharacter isPropertyCharacter cellAt textOf textAt sameBytes isString every atSigns firstIsPlain lastIsPlain nodeCharacters isNodeName isPropertyName isRootName sameText blockChecks headerChecks blocksOf header tokensFrom tokens padded propertyAt stepAt nameAt among layoutOf checkTree step walk containerOffsets firstTwo bit inOrder some featureChecks givenWord featureOf nodeAt readChecks recordOf readRecord exampleTree exampleRecord carrierFrom cellChecks carrierChecks slotsOf valueIn nodesNamed childrenAt
+example-read = refl

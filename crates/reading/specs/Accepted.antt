@@ -1,0 +1,69 @@
+-- What an accepted tree is, in the words of document 01, "The feature record".
+use Prim.Native.Nat.{ℕ, _≤_, _<_}
+use mathlib.Core.Path.{_≡_}
+use mathlib.Core.Bool.{true, false}
+use mathlib.Core.List.{List, _∷_, _++_}
+use lib.ListN.{length, getD}
+use Rattle.refusal.specs.Refusal.{Fault}
+use Rattle.refusal.specs.Checks.{Check}
+use Rattle.header.specs.Header.{blocksOf}
+use Rattle.names.specs.Names.{sameText}
+use Rattle.record.specs.Record.{mostFeatures, mostDependencies, highestBit}
+use Rattle.walk.specs.Checked.{checkTree}
+use Rattle.reading.specs.Nodes.{Node, children}
+use Rattle.reading.specs.Values.{Value, valueOf, isText, isGiven, isCell, isCellOrMissing, isCells, number, lowBit, cellsOf}
+use Rattle.reading.specs.Features.{some, isPhandle, isRepeated}
+use Rattle.reading.specs.Dependencies.{isSomewhere, carrier}
+use Rattle.reading.specs.Reading.{nodeAt, containersOf, readChecks}
+
+-- the container of a tree, its features, and the checks of them all
+abbrev pub containerOf : List ℕ → Node
+containerOf tree = nodeAt (containersOf tree (blocksOf tree)) 0
+
+abbrev pub featuresOf : List ℕ → List Node
+featuresOf tree = children (containerOf tree)
+
+abbrev pub checksOf : List ℕ → List (Check Fault)
+checksOf tree = readChecks (blocksOf tree .start) (containersOf tree (blocksOf tree))
+
+-- the cells of a node's dependencies
+abbrev pub dependenciesOf : Node → List ℕ
+dependenciesOf n = cellsOf (valueOf n "dependencies")
+
+-- "0 to 63; required where that bit 0 is set"
+pub record BitForm (support v : Value) : Type 0 where
+  pub form : isCellOrMissing v ≡ true
+  pub range : number v ≤ highestBit
+  pub required : lowBit support ≡ true → isGiven v ≡ true
+
+-- a feature behind others: its properties are of the right form, and neither its name nor its phandle is one of theirs
+pub record FeatureForm (before : List Node) (n : Node) : Type 0 where
+  pub isa : isCell (valueOf n "isa") ≡ true
+  pub privilege : isCell (valueOf n "usable-privilege") ≡ true
+  pub hypervisor : isCellOrMissing (valueOf n "hv-support") ≡ true
+  pub system : isCellOrMissing (valueOf n "os-support") ≡ true
+  pub hfscr : BitForm (valueOf n "hv-support") (valueOf n "hfscr-bit-nr")
+  pub fscr : BitForm (valueOf n "os-support") (valueOf n "fscr-bit-nr")
+  pub hwcap : BitForm (valueOf n "usable-privilege") (valueOf n "hwcap-bit-nr")
+  pub phandle : isCellOrMissing (valueOf n "phandle") ≡ true
+  pub phandleRange : isPhandle (valueOf n "phandle") ≡ true
+  pub phandleOnce : isRepeated before (valueOf n "phandle") ≡ false
+  pub dependencies : isCells (valueOf n "dependencies") ≡ true
+  pub few : length (dependenciesOf n) ≤ mostDependencies
+  pub nameOnce : some (λ (m : Node). sameText (m .name) (n .name)) before ≡ false
+
+-- a container with its features
+pub record ContainerForm (c : Node) : Type 0 where
+  pub deviceType : isText "cpu-features" (valueOf c "device_type") ≡ true
+  pub compatible : isText "ibm,powerpc-cpu-features" (valueOf c "compatible") ≡ true
+  pub isa : isCell (valueOf c "isa") ≡ true
+  pub few : length (children c) ≤ mostFeatures
+  pub features : (before : List Node) (n : Node) (behind : List Node) → children c ≡ before ++ n ∷ behind → FeatureForm before n
+  pub found : (before : List Node) (n : Node) (behind : List Node) → children c ≡ before ++ n ∷ behind
+      → (j : ℕ) → j < length (dependenciesOf n) → isSomewhere (carrier (children c) (getD (dependenciesOf n) j 0)) ≡ true
+
+-- an accepted tree
+pub record Accepted (tree : List ℕ) : Type 0 where
+  pub walked : checkTree tree .number ≡ 0
+  pub once : length (containersOf tree (blocksOf tree)) ≡ 1
+  pub form : ContainerForm (containerOf tree)

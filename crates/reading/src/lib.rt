@@ -1,0 +1,1 @@
+// Reading of the feature record: definitions in specs/, theorems in proofs/. There is no code here.
