@@ -10,19 +10,19 @@ enum { RUNS = 401, NANOSECONDS_A_RUN = 40000 };
 
 struct graph {
     const char *name;
-    struct record r;
-    struct rows table;
-    struct grants g;
+    YebkuzanRecord r;
+    YebkuzanRows table;
+    YebkuzanGrants g;
     uint32_t position;
 };
 
 static const uint32_t LEVEL = 0;
 
 /* Where the calls put their answers: what the library answers, and what C does. */
-static struct enabled enabled[2];
-static struct reach reach[2];
-static struct chain chain[2];
-static uint8_t bytes[2][MOST_FEATURES];
+static YebkuzanEnabled enabled[2];
+static YebkuzanReach reach[2];
+static YebkuzanWritten chain[2];
+static uint8_t bytes[2][YEBKUZAN_MOST_FEATURES];
 static uint32_t form[2];
 
 /* Who answers: the library, C with a test of the record's form, C without one. */
@@ -63,9 +63,9 @@ static void by_table(const struct graph *t, enum who who)
 static void chain_of(const struct graph *t, enum who who)
 {
     if (who == LIBRARY)
-        chain[0] = yebkuzan_chain(t->r, LEVEL, t->g, t->position, bytes[0], MOST_FEATURES);
+        chain[0] = yebkuzan_chain(t->r, LEVEL, t->g, t->position, bytes[0], YEBKUZAN_MOST_FEATURES);
     else
-        chain[1] = c_chain(&t->r, LEVEL, &t->g, t->position, bytes[1], MOST_FEATURES, who == TESTED);
+        chain[1] = c_chain(&t->r, LEVEL, &t->g, t->position, bytes[1], YEBKUZAN_MOST_FEATURES, who == TESTED);
 }
 
 struct call {
@@ -93,24 +93,24 @@ static void compare(struct graph *t)
 {
     reach_table(t, LIBRARY);
     reach_table(t, TESTED);
-    if (reach[0].number != reach[1].number || memcmp(&reach[0].rows, &reach[1].rows, sizeof(struct rows)) != 0)
+    if (reach[0].number != reach[1].number || memcmp(&reach[0].rows, &reach[1].rows, sizeof(YebkuzanRows)) != 0)
         fail(t, "reach table");
     t->table = reach[0].rows;
     if (yebkuzan_well_formed(t->r) != c_well_formed(&t->r))
         fail(t, "well formed");
     for (uint32_t level = 0; level <= 3; level++) {
-        struct enabled e = yebkuzan_enable(t->r, level, t->g);
-        struct enabled b = yebkuzan_enable_by_table(t->r, t->table, level, t->g);
-        struct enabled c = c_enable(&t->r, level, &t->g, true);
-        struct enabled d = c_enable_by_table(&t->r, &t->table, level, &t->g, true);
+        YebkuzanEnabled e = yebkuzan_enable(t->r, level, t->g);
+        YebkuzanEnabled b = yebkuzan_enable_by_table(t->r, t->table, level, t->g);
+        YebkuzanEnabled c = c_enable(&t->r, level, &t->g, true);
+        YebkuzanEnabled d = c_enable_by_table(&t->r, &t->table, level, &t->g, true);
         if (memcmp(&e, &c, sizeof e) != 0 || memcmp(&b, &d, sizeof b) != 0 || memcmp(&e, &b, sizeof e) != 0)
             fail(t, "enabled set");
         for (uint32_t i = 0; i <= t->r.count; i++)
-            for (size_t size = 0; size <= MOST_FEATURES; size++) {
+            for (size_t size = 0; size <= YEBKUZAN_MOST_FEATURES; size++) {
                 memset(bytes, 255, sizeof bytes);
-                struct chain x = yebkuzan_chain(t->r, level, t->g, i, bytes[0], size);
-                struct chain y = c_chain(&t->r, level, &t->g, i, bytes[1], size, true);
-                if (memcmp(&x, &y, sizeof x) != 0 || memcmp(bytes[0], bytes[1], MOST_FEATURES) != 0)
+                YebkuzanWritten x = yebkuzan_chain(t->r, level, t->g, i, bytes[0], size);
+                YebkuzanWritten y = c_chain(&t->r, level, &t->g, i, bytes[1], size, true);
+                if (memcmp(&x, &y, sizeof x) != 0 || memcmp(bytes[0], bytes[1], YEBKUZAN_MOST_FEATURES) != 0)
                     fail(t, "chain");
             }
     }
@@ -121,13 +121,13 @@ static void compare_refused(const struct graph *t)
 {
     for (int fault = 0; fault < 5; fault++) {
         struct graph x = *t;
-        struct feature *f = &x.r.features[21];
+        YebkuzanFeature *f = &x.r.features[21];
         switch (fault) {
-        case 0: x.r.count = MOST_FEATURES + 1; break;
-        case 1: f->dependencies = MOST_DEPENDENCIES + 1; break;
-        case 2: x.r.slots[MOST_DEPENDENCIES * 21] = (uint16_t)x.r.count; break;
+        case 0: x.r.count = YEBKUZAN_MOST_FEATURES + 1; break;
+        case 1: f->dependencies = YEBKUZAN_MOST_DEPENDENCIES + 1; break;
+        case 2: x.r.slots[YEBKUZAN_MOST_DEPENDENCIES * 21] = (uint16_t)x.r.count; break;
         case 3: f->hwcap_bit_nr = 64; break;
-        case 4: f->given &= ~(uint32_t)HWCAP_BIT_NR; break;
+        case 4: f->given &= ~(uint32_t)YEBKUZAN_GIVEN_HWCAP_BIT_NR; break;
         }
         if (c_well_formed(&x.r) != 14)
             fail(t, "refusal");
@@ -191,13 +191,14 @@ static struct graph *start(const char *name, uint32_t n, uint64_t without, uint3
         exit(2);
     t->name = name;
     t->position = position;
-    t->g = (struct grants){ { { 0 } }, { { 0 } }, ~UINT64_C(0), ~UINT64_C(0) };
+    t->g = (YebkuzanGrants){ { { 0 } }, { { 0 } }, ~UINT64_C(0), ~UINT64_C(0) };
     t->r.isa = 3000;
     t->r.count = n;
     for (uint32_t i = 0; i < n; i++) {
-        struct feature *f = &t->r.features[i];
+        YebkuzanFeature *f = &t->r.features[i];
         f->offset = 100 * i;
-        f->given = ISA | USABLE_PRIVILEGE | HV_SUPPORT | OS_SUPPORT | HFSCR_BIT_NR | FSCR_BIT_NR | HWCAP_BIT_NR | PHANDLE;
+        f->given = YEBKUZAN_GIVEN_ISA | YEBKUZAN_GIVEN_USABLE_PRIVILEGE | YEBKUZAN_GIVEN_HV_SUPPORT | YEBKUZAN_GIVEN_OS_SUPPORT
+            | YEBKUZAN_GIVEN_HFSCR_BIT_NR | YEBKUZAN_GIVEN_FSCR_BIT_NR | YEBKUZAN_GIVEN_HWCAP_BIT_NR | YEBKUZAN_GIVEN_PHANDLE;
         f->isa = 3000;
         f->usable_privilege = without >> i & 1 ? 6 : 7;
         f->hv_support = 1;
@@ -212,9 +213,9 @@ static struct graph *start(const char *name, uint32_t n, uint64_t without, uint3
 
 static void need(struct graph *t, uint32_t i, uint32_t d)
 {
-    struct feature *f = &t->r.features[i];
-    f->given |= DEPENDENCIES;
-    t->r.slots[MOST_DEPENDENCIES * i + f->dependencies] = (uint16_t)d;
+    YebkuzanFeature *f = &t->r.features[i];
+    f->given |= YEBKUZAN_GIVEN_DEPENDENCIES;
+    t->r.slots[YEBKUZAN_MOST_DEPENDENCIES * i + f->dependencies] = (uint16_t)d;
     f->dependencies++;
 }
 
@@ -235,7 +236,7 @@ static struct graph *dense_graph(bool all)
 {
     struct graph *t = all ? start("dense, all permitted", 64, 0, 7) : start("dense, one not permitted", 64, UINT64_C(1) << 40, 7);
     for (uint32_t i = 0; i < 64; i++)
-        for (uint32_t j = 0; j < MOST_DEPENDENCIES; j++)
+        for (uint32_t j = 0; j < YEBKUZAN_MOST_DEPENDENCIES; j++)
             need(t, i, (i * 7 + j * j + 3 * j + 1) % 64);
     return t;
 }
@@ -248,11 +249,11 @@ static struct graph *typical_graph(void)
         { 21, 20 }, { 26, 25 }, { 30, 14 }, { 33, 30 }, { 38, 2 }, { 41, 38 }, { 47, 33 } };
     struct graph *t = start("typical, 50 features", 50, UINT64_C(1) << 8 | UINT64_C(1) << 25, 47);
     for (uint32_t i = 0; i < 50; i++) {
-        struct feature *f = &t->r.features[i];
+        YebkuzanFeature *f = &t->r.features[i];
         if (i % 3 == 0)
-            f->given &= ~(uint32_t)(HV_SUPPORT | HFSCR_BIT_NR);
+            f->given &= ~(uint32_t)(YEBKUZAN_GIVEN_HV_SUPPORT | YEBKUZAN_GIVEN_HFSCR_BIT_NR);
         if (i % 3 == 1)
-            f->given &= ~(uint32_t)(OS_SUPPORT | FSCR_BIT_NR);
+            f->given &= ~(uint32_t)(YEBKUZAN_GIVEN_OS_SUPPORT | YEBKUZAN_GIVEN_FSCR_BIT_NR);
     }
     for (uint32_t k = 0; k < 15; k++)
         need(t, pairs[k][0], pairs[k][1]);

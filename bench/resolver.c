@@ -1,14 +1,14 @@
 /* The resolver as a user would write it in plain C. */
 #include "resolver.h"
 
-static bool given(const struct feature *f, uint32_t property)
+static bool given(const YebkuzanFeature *f, uint32_t property)
 {
     return (f->given & property) != 0;
 }
 
-static uint32_t dependency_count(const struct feature *f)
+static uint32_t dependency_count(const YebkuzanFeature *f)
 {
-    return given(f, DEPENDENCIES) ? f->dependencies : 0;
+    return given(f, YEBKUZAN_GIVEN_DEPENDENCIES) ? f->dependencies : 0;
 }
 
 static bool member(uint64_t s, uint32_t i)
@@ -17,32 +17,32 @@ static bool member(uint64_t s, uint32_t i)
 }
 
 /* A bit number is in range where given, and given where bit 0 of its support is set. */
-static bool bit_fits(const struct feature *f, uint32_t support, uint32_t value, uint32_t property, uint32_t number)
+static bool bit_fits(const YebkuzanFeature *f, uint32_t support, uint32_t value, uint32_t property, uint32_t number)
 {
     if (given(f, property))
         return number <= 63;
     return !(given(f, support) && (value & 1));
 }
 
-static bool feature_fits(const struct record *r, uint32_t i)
+static bool feature_fits(const YebkuzanRecord *r, uint32_t i)
 {
-    const struct feature *f = &r->features[i];
+    const YebkuzanFeature *f = &r->features[i];
     uint32_t n = dependency_count(f);
 
-    if (!bit_fits(f, HV_SUPPORT, f->hv_support, HFSCR_BIT_NR, f->hfscr_bit_nr)
-        || !bit_fits(f, OS_SUPPORT, f->os_support, FSCR_BIT_NR, f->fscr_bit_nr)
-        || !bit_fits(f, USABLE_PRIVILEGE, f->usable_privilege, HWCAP_BIT_NR, f->hwcap_bit_nr)
-        || n > MOST_DEPENDENCIES)
+    if (!bit_fits(f, YEBKUZAN_GIVEN_HV_SUPPORT, f->hv_support, YEBKUZAN_GIVEN_HFSCR_BIT_NR, f->hfscr_bit_nr)
+        || !bit_fits(f, YEBKUZAN_GIVEN_OS_SUPPORT, f->os_support, YEBKUZAN_GIVEN_FSCR_BIT_NR, f->fscr_bit_nr)
+        || !bit_fits(f, YEBKUZAN_GIVEN_USABLE_PRIVILEGE, f->usable_privilege, YEBKUZAN_GIVEN_HWCAP_BIT_NR, f->hwcap_bit_nr)
+        || n > YEBKUZAN_MOST_DEPENDENCIES)
         return false;
     for (uint32_t j = 0; j < n; j++)
-        if (r->slots[MOST_DEPENDENCIES * i + j] >= r->count)
+        if (r->slots[YEBKUZAN_MOST_DEPENDENCIES * i + j] >= r->count)
             return false;
     return true;
 }
 
-uint32_t c_well_formed(const struct record *r)
+uint32_t c_well_formed(const YebkuzanRecord *r)
 {
-    if (r->count > MOST_FEATURES)
+    if (r->count > YEBKUZAN_MOST_FEATURES)
         return 14;
     for (uint32_t i = 0; i < r->count; i++)
         if (!feature_fits(r, i))
@@ -50,7 +50,7 @@ uint32_t c_well_formed(const struct record *r)
     return 0;
 }
 
-static uint32_t asked(const struct record *r, uint32_t level, bool test)
+static uint32_t asked(const YebkuzanRecord *r, uint32_t level, bool test)
 {
     if (test && c_well_formed(r) != 0)
         return 14;
@@ -65,23 +65,25 @@ static bool supported(uint32_t upper, uint32_t level, bool asked, uint32_t suppo
     return (support & 1) && numbered && number < 64 && member(mask, number);
 }
 
-static uint64_t permitted_set(const struct record *r, uint32_t level, const struct grants *g)
+static uint64_t permitted_set(const YebkuzanRecord *r, uint32_t level, const YebkuzanGrants *g)
 {
     uint64_t s = 0;
 
     for (uint32_t i = 0; i < r->count; i++) {
-        const struct feature *f = &r->features[i];
-        if (given(f, USABLE_PRIVILEGE) && member(f->usable_privilege, level)
-            && supported(2, level, given(f, HV_SUPPORT), f->hv_support, given(f, HFSCR_BIT_NR), f->hfscr_bit_nr, g->hfscr, member(g->hypervisor.words[0], i))
-            && supported(1, level, given(f, OS_SUPPORT), f->os_support, given(f, FSCR_BIT_NR), f->fscr_bit_nr, g->fscr, member(g->system.words[0], i)))
+        const YebkuzanFeature *f = &r->features[i];
+        if (given(f, YEBKUZAN_GIVEN_USABLE_PRIVILEGE) && member(f->usable_privilege, level)
+            && supported(2, level, given(f, YEBKUZAN_GIVEN_HV_SUPPORT), f->hv_support, given(f, YEBKUZAN_GIVEN_HFSCR_BIT_NR),
+                f->hfscr_bit_nr, g->hfscr, member(g->hypervisor.words[0], i))
+            && supported(1, level, given(f, YEBKUZAN_GIVEN_OS_SUPPORT), f->os_support, given(f, YEBKUZAN_GIVEN_FSCR_BIT_NR),
+                f->fscr_bit_nr, g->fscr, member(g->system.words[0], i)))
             s |= UINT64_C(1) << i;
     }
     return s;
 }
 
-static struct enabled counted(uint64_t s)
+static YebkuzanEnabled counted(uint64_t s)
 {
-    return (struct enabled){ 0, (uint32_t)__builtin_popcountll(s), { { s } } };
+    return (YebkuzanEnabled){ 0, (uint32_t)__builtin_popcountll(s), { { s } } };
 }
 
 static bool all_in(const uint16_t *slots, uint32_t n, uint64_t s)
@@ -93,17 +95,17 @@ static bool all_in(const uint16_t *slots, uint32_t n, uint64_t s)
 }
 
 /* The fixpoint over the slots: until nothing changes, each member with a dependency that is not one is taken out. */
-struct enabled c_enable(const struct record *r, uint32_t level, const struct grants *g, bool test)
+YebkuzanEnabled c_enable(const YebkuzanRecord *r, uint32_t level, const YebkuzanGrants *g, bool test)
 {
     uint32_t number = asked(r, level, test);
     if (number != 0)
-        return (struct enabled){ number, 0, { { 0 } } };
+        return (YebkuzanEnabled){ number, 0, { { 0 } } };
     uint64_t s = permitted_set(r, level, g);
     bool changed;
     do {
         changed = false;
         for (uint32_t i = 0; i < r->count; i++) {
-            if (member(s, i) && !all_in(&r->slots[MOST_DEPENDENCIES * i], dependency_count(&r->features[i]), s)) {
+            if (member(s, i) && !all_in(&r->slots[YEBKUZAN_MOST_DEPENDENCIES * i], dependency_count(&r->features[i]), s)) {
                 s &= ~(UINT64_C(1) << i);
                 changed = true;
             }
@@ -113,10 +115,10 @@ struct enabled c_enable(const struct record *r, uint32_t level, const struct gra
 }
 
 /* A row of its dependencies for each feature; the rows from the count on are not touched. */
-static void needs(const struct record *r, uint64_t *rows)
+static void needs(const YebkuzanRecord *r, uint64_t *rows)
 {
     for (uint32_t i = 0; i < r->count; i++) {
-        const uint16_t *slots = &r->slots[MOST_DEPENDENCIES * i];
+        const uint16_t *slots = &r->slots[YEBKUZAN_MOST_DEPENDENCIES * i];
         uint32_t n = dependency_count(&r->features[i]);
         uint64_t row = 0;
         for (uint32_t j = 0; j < n; j++)
@@ -126,9 +128,9 @@ static void needs(const struct record *r, uint64_t *rows)
 }
 
 /* Warshall over rows. */
-struct reach c_reach_table(const struct record *r, bool test)
+YebkuzanReach c_reach_table(const YebkuzanRecord *r, bool test)
 {
-    struct reach t = { 0 };
+    YebkuzanReach t = { 0 };
 
     if (test && c_well_formed(r) != 0) {
         t.number = 14;
@@ -146,11 +148,11 @@ struct reach c_reach_table(const struct record *r, bool test)
     return t;
 }
 
-struct enabled c_enable_by_table(const struct record *r, const struct rows *table, uint32_t level, const struct grants *g, bool test)
+YebkuzanEnabled c_enable_by_table(const YebkuzanRecord *r, const YebkuzanRows *table, uint32_t level, const YebkuzanGrants *g, bool test)
 {
     uint32_t number = asked(r, level, test);
     if (number != 0)
-        return (struct enabled){ number, 0, { { 0 } } };
+        return (YebkuzanEnabled){ number, 0, { { 0 } } };
     uint64_t p = permitted_set(r, level, g);
     uint64_t s = 0;
     for (uint32_t i = 0; i < r->count; i++)
@@ -171,26 +173,27 @@ static uint64_t layer(const uint64_t *rows, uint32_t n, uint64_t s)
 }
 
 /* The layers that hold a position, and then from each position the smallest dependency outside the layer below. */
-struct chain c_chain(const struct record *r, uint32_t level, const struct grants *g, uint32_t position, uint8_t *out, size_t size, bool test)
+YebkuzanWritten c_chain(
+    const YebkuzanRecord *r, uint32_t level, const YebkuzanGrants *g, uint32_t position, uint8_t *out, size_t size, bool test)
 {
-    uint64_t rows[MOST_FEATURES], layers[MOST_FEATURES];
+    uint64_t rows[YEBKUZAN_MOST_FEATURES], layers[YEBKUZAN_MOST_FEATURES];
     uint32_t number = asked(r, level, test);
     if (number != 0)
-        return (struct chain){ number, 0 };
+        return (YebkuzanWritten){ number, 0 };
     if (position >= r->count)
-        return (struct chain){ 16, 0 };
+        return (YebkuzanWritten){ 16, 0 };
     uint64_t s = permitted_set(r, level, g);
     uint32_t k = 0;
     needs(r, rows);
     while (member(s, position)) {
         uint64_t t = layer(rows, r->count, s);
         if (t == s)
-            return (struct chain){ 17, 0 };
+            return (YebkuzanWritten){ 17, 0 };
         layers[k++] = s;
         s = t;
     }
     if (size < k + 1)
-        return (struct chain){ 18, 0 };
+        return (YebkuzanWritten){ 18, 0 };
     uint32_t length = 0;
     uint32_t at = position;
     while (k > 0) {
@@ -199,5 +202,5 @@ struct chain c_chain(const struct record *r, uint32_t level, const struct grants
         at = (uint32_t)__builtin_ctzll(rows[at] & ~layers[k]);
     }
     out[length++] = (uint8_t)at;
-    return (struct chain){ 0, length };
+    return (YebkuzanWritten){ 0, length };
 }

@@ -20,6 +20,7 @@ ghost use Rattle.attributes.specs.Attributes.{
 pub const MOST_BYTES: usize = 254;
 
 // The attributes of `ibm,pa-features`; each flag is 0 or 1.
+#[repr(C)]
 pub struct PaTable {
     pub raw: [u8; 6],
     pub data_streams: u8,
@@ -36,6 +37,7 @@ pub struct PaFeatures {
 }
 
 // The bytes of `ibm,pi-features`, and zeros.
+#[repr(C)]
 pub struct PiTable {
     pub count: u32,
     pub bytes: [u8; 254],

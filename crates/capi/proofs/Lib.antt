@@ -1,1 +1,5 @@
 pub mod NumberLaws
+pub mod PlaceLaws
+pub mod PropertyLaws
+pub mod UnitLaws
+pub mod Answers

@@ -6,11 +6,13 @@ use lib.Dec.{ltb}
 use lib.ListN.{length, take, drop}
 use Rattle.cells.specs.Strings.{Text, ended}
 use Rattle.names.specs.Names.{isPropertyName, sameText}
+use Rattle.refusal.specs.Refusal.{Outcome, numberOf}
 use Rattle.tokens.specs.declared.Step.the-variants.{BeginNode, EndNode, Property, Nop, End, Fault}
 use Rattle.tokens.specs.Steps.{pick, stepAt}
 use Rattle.properties.specs.Properties.{nameAt, among}
 use Rattle.lookup.specs.declared.Found.{Found}
 use Rattle.lookup.specs.declared.Found.the-variants.{InCpu, InParent, Nowhere}
+use Rattle.lookup.specs.declared.Looked.{Looked}
 
 -- a property of a block: its name, and where it begins and its value ends
 pub record Held : Type 0 where
@@ -86,6 +88,14 @@ reasonOf f (properties ps) (properties qs) = notFound f
 
 unfoldable pub reason : List ℕ → List ℕ → List ℕ → List ℕ → ℕ
 reason cpu parent strings name = reasonOf (lookup cpu parent strings name) (blockOf cpu strings) (blockOf parent strings)
+
+-- both: the reason, and where it is
+abbrev pub lookedUp : List ℕ → List ℕ → List ℕ → List ℕ → Outcome Found
+lookedUp cpu parent strings name = record { number = reason cpu parent strings name; value = lookup cpu parent strings name }
+
+-- what an answer says: the number of document 01, and where the property is
+abbrev pub lookedOutcome : Looked → Outcome Found
+lookedOutcome r = record { number = numberOf (r .refusal); value = r .found }
 
 -- "the property record from its token to the value's last byte, as a part of the one block or of the other; the empty part" otherwise
 unfoldable pub partOf : List ℕ → List ℕ → Found → List ℕ

@@ -22,7 +22,7 @@ use Rattle.lookup.specs.declared.Hit.the-variants.{At, Missing}
 use Rattle.lookup.specs.declared.BlockRead.{BlockRead}
 use Rattle.lookup.specs.declared.BlockRead.the-variants.{Properties, Refused}
 use Rattle.lookup.specs.declared.Looked.{Looked}
-use Rattle.lookup.specs.Lookup.{Held, Block, properties, refused, heldAs, lookup, reason}
+use Rattle.lookup.specs.Lookup.{Held, Block, properties, refused, heldAs}
 
 -- the name at an offset of the strings block
 abbrev pub nameIn : List ℕ → ℕ → Text
@@ -82,8 +82,3 @@ abbrev pub firstOf : Hit → Hit → Looked
 firstOf (At from to) other = record { refusal = None; found = InCpu from to }
 firstOf Missing (At from to) = record { refusal = None; found = InParent from to }
 firstOf Missing Missing = nowhere NotFound
-
--- what both public questions ask
-pub record Looks (cpu parent strings name : List ℕ) (r : Looked) : Type 0 where
-  pub place : r .found ≡ lookup cpu parent strings name
-  pub why : numberOf (r .refusal) ≡ reason cpu parent strings name

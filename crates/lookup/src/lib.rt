@@ -7,8 +7,8 @@ ghost use mathlib.Core.Path.{_≡_};
 ghost use Rattle.cells.specs.Strings.{ended};
 ghost use Rattle.names.specs.Names.{sameText};
 ghost use Rattle.refusal.specs.Refusal.{numberOf};
-ghost use Rattle.lookup.specs.Lookup.{blockOf, lookup as lookupIn, reason, partOf, valueOf};
-ghost use Rattle.lookup.specs.Parts.{nameIn, Stands, firstHit, Reads, firstOf, nowhere as nowhereFor, Looks};
+ghost use Rattle.lookup.specs.Lookup.{blockOf, lookup as lookupIn, reason, lookedUp, lookedOutcome, partOf, valueOf};
+ghost use Rattle.lookup.specs.Parts.{nameIn, Stands, firstHit, Reads, firstOf, nowhere as nowhereFor};
 
 // A property's token, the length of its value and its name's offset come before its value.
 const HEAD: usize = 12;
@@ -44,10 +44,10 @@ enum BlockRead {
     Refused(Refusal),
 }
 
-// A property, looked up in both blocks.
-struct Looked {
-    refusal: Refusal,
-    found: Found,
+// A property, looked up in both blocks: a refusal, or where it is; nowhere beside a refusal.
+pub struct Looked {
+    pub refusal: Refusal,
+    pub found: Found,
 }
 
 // What stands at a place of a block. At one token 6 comes before 7 and 9.
@@ -167,9 +167,14 @@ fn first_of(own: Hit, other: Hit) -> Looked
     }
 }
 
-// The property, looked up in both blocks: each is read whole before it counts as found in either.
-fn look_up(cpu: &[u8], parent: &[u8], strings: &[u8], name: &[u8]) -> Looked
-    ensures { λ r. ⌜ Looks (now (cpu .entry)) (now (parent .entry)) (now (strings .entry)) (now (name .entry)) r ⌝ }
+// Where a property of a name is, and why where it is nowhere, in one pass over each block: each is read whole before it counts as found
+// in either.
+pub fn look_up(cpu: &[u8], parent: &[u8], strings: &[u8], name: &[u8]) -> Looked
+    ensures { λ r.
+        ⌜
+        lookedOutcome r
+        ≡ lookedUp (now (cpu .entry)) (now (parent .entry)) (now (strings .entry)) (now (name .entry))
+        ⌝ }
 {
     let own = read_block(cpu, strings, name);
     match own {

@@ -26,12 +26,14 @@ pub const MOST_DESCRIPTORS: usize = 8;
 pub const MOST_PAGES: u32 = 8;
 
 // A page size and its encoding in a page table entry.
+#[repr(C)]
 pub struct Page {
     pub exponent: u32,
     pub encoding: u32,
 }
 
 // A base page size, its SLB encoding, and its pages; zeros from the count on.
+#[repr(C)]
 pub struct Descriptor {
     pub base: u32,
     pub encoding: u32,
@@ -39,6 +41,7 @@ pub struct Descriptor {
     pub pages: [Page; 8],
 }
 
+#[repr(C)]
 pub struct SegmentTable {
     pub count: u32,
     pub descriptors: [Descriptor; 8],

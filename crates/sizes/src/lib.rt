@@ -11,6 +11,7 @@ pub const MOST_SIZES: usize = 16;
 pub const LARGEST_EXPONENT: u32 = 63;
 
 // The exponents of a table, in its order, and zeros.
+#[repr(C)]
 pub struct SizeTable {
     pub count: u32,
     pub exponents: [u32; 16],

@@ -1,0 +1,170 @@
+/* Calls every function of the archive from C, on the tree of document 01's "Both sides" and on small values, and looks at each field. */
+#include <stdio.h>
+#include <string.h>
+
+#include "yebkuzan.h"
+
+static int failures;
+
+#define EXPECT(condition) expect(condition, #condition, __LINE__)
+
+static void expect(int holds, const char *text, int line)
+{
+    if (!holds) {
+        fprintf(stderr, "tests/header/calls.c:%d: not so: %s\n", line, text);
+        failures++;
+    }
+}
+
+static void sizes(void)
+{
+    static const uint8_t value[] = { 0, 0, 0, 12, 0, 0, 0, 16, 0, 0, 0, 24 };
+    static const uint8_t twice[] = { 0, 0, 0, 12, 0, 0, 0, 12 };
+    YebkuzanSizes p = yebkuzan_page_sizes(value, sizeof value);
+    YebkuzanSizes s = yebkuzan_segment_sizes(value, 8);
+
+    EXPECT(p.number == 0 && p.table.count == 3);
+    EXPECT(p.table.exponents[0] == 12 && p.table.exponents[1] == 16 && p.table.exponents[2] == 24 && p.table.exponents[3] == 0);
+    EXPECT(s.number == 0 && s.table.count == 2 && s.table.exponents[1] == 16 && s.table.exponents[2] == 0);
+    p = yebkuzan_page_sizes(twice, sizeof twice);
+    EXPECT(p.number == YEBKUZAN_REFUSAL_NOT_ASCENDING && p.table.count == 0 && p.table.exponents[0] == 0);
+    EXPECT(yebkuzan_segment_sizes(value, 0).number == YEBKUZAN_REFUSAL_PROPERTY_FORM);
+}
+
+static void segments(void)
+{
+    static const uint8_t value[] = { 0, 0, 0, 12, 0, 0, 0, 1, 0, 0, 0, 1, 0, 0, 0, 16, 0, 0, 0, 7 };
+    YebkuzanSegments s = yebkuzan_segment_page_sizes(value, sizeof value);
+    const YebkuzanDescriptor *d = &s.table.descriptors[0];
+
+    EXPECT(s.number == 0 && s.table.count == 1);
+    EXPECT(d->base == 12 && d->encoding == 1 && d->count == 1 && d->pages[0].exponent == 16 && d->pages[0].encoding == 7);
+    EXPECT(s.table.descriptors[7].count == 0 && s.table.descriptors[7].pages[7].encoding == 0);
+    EXPECT(yebkuzan_segment_page_sizes(value, sizeof value - 1).number == YEBKUZAN_REFUSAL_PROPERTY_FORM);
+}
+
+static void attributes(void)
+{
+    uint8_t value[26] = { 24, 0, 1, 2, 3, 4, 5, 6, 0x80, 0, 8, 9, 10, 11, 12, 13, 14, 15 };
+    static const uint8_t frequency[] = { 0, 0, 0, 1, 0, 0, 0, 2 };
+    YebkuzanPaFeatures pa;
+    YebkuzanPiFeatures pi;
+    YebkuzanBusFrequency bus = yebkuzan_bus_frequency(frequency, sizeof frequency);
+
+    value[2 + 18] = 0x80;
+    value[2 + 22] = 0xff;
+    pa = yebkuzan_pa_features(value, sizeof value);
+    pi = yebkuzan_pi_features(value, sizeof value);
+    EXPECT(pa.number == 0 && pa.table.raw[0] == 1 && pa.table.raw[5] == 6);
+    EXPECT(pa.table.data_streams == 1 && pa.table.vector == 0 && pa.table.vector_scalar == 1);
+    EXPECT(pa.table.vector_crypto == 0 && pa.table.transactional_memory == 1);
+    EXPECT(pa.table.coprocessor == UINT64_C(0x08090a0b0c0d0e0f));
+    EXPECT(pi.number == 0 && pi.table.count == 24 && memcmp(pi.table.bytes, value + 2, 24) == 0 && pi.table.bytes[253] == 0);
+    value[1] = 1;
+    EXPECT(yebkuzan_pa_features(value, sizeof value).number == YEBKUZAN_REFUSAL_NOT_FOUND);
+    pi = yebkuzan_pi_features(value, 1);
+    EXPECT(pi.number == YEBKUZAN_REFUSAL_PROPERTY_FORM && pi.table.count == 0 && pi.table.bytes[0] == 0);
+    EXPECT(bus.number == 0 && bus.frequency == UINT64_C(0x100000002));
+    EXPECT(yebkuzan_bus_frequency(frequency, 7).number == YEBKUZAN_REFUSAL_PROPERTY_FORM);
+}
+
+static void unit_text(void)
+{
+    uint8_t out[4] = { 'x', 'x', 'x', 'x' };
+    YebkuzanUnit u = yebkuzan_read_unit((const uint8_t *)"00fF", 4);
+    YebkuzanWritten w = yebkuzan_write_unit(255, out, sizeof out);
+
+    EXPECT(u.number == 0 && u.unit == 255);
+    EXPECT(w.number == 0 && w.length == 2 && memcmp(out, "ffxx", 4) == 0);
+    u = yebkuzan_read_unit((const uint8_t *)"100000000", 9);
+    EXPECT(u.number == YEBKUZAN_REFUSAL_OUT_OF_RANGE && u.unit == 0);
+    EXPECT(yebkuzan_read_unit(out, 0).number == YEBKUZAN_REFUSAL_UNIT_TEXT);
+    w = yebkuzan_write_unit(YEBKUZAN_LARGEST_UNIT, out, sizeof out);
+    EXPECT(w.number == YEBKUZAN_REFUSAL_BUFFER_LENGTH && w.length == 0 && memcmp(out, "ffxx", 4) == 0);
+}
+
+static void properties(void)
+{
+    static const uint8_t strings[] = "a\0bc";
+    static const uint8_t cpu[] = { 0, 0, 0, 4, 0, 0, 0, 3, 0, 0, 0, 4, 0, 0, 0, 2, 1, 2, 3, 4 };
+    static const uint8_t parent[] = { 0, 0, 0, 3, 0, 0, 0, 1, 0, 0, 0, 0, 9, 0, 0, 0 };
+    const uint8_t *name = strings;
+    YebkuzanProperty p = yebkuzan_find_property(cpu, sizeof cpu, parent, sizeof parent, strings, sizeof strings, name + 2, 2);
+
+    EXPECT(p.number == 0 && p.block == YEBKUZAN_CPU_BLOCK && p.offset == 4 && p.length == YEBKUZAN_PROPERTY_HEAD + 4);
+    p = yebkuzan_find_property(cpu, sizeof cpu, parent, sizeof parent, strings, sizeof strings, name, 1);
+    EXPECT(p.number == 0 && p.block == YEBKUZAN_PARENT_BLOCK && p.offset == 0 && p.length == YEBKUZAN_PROPERTY_HEAD + 1);
+    EXPECT(yebkuzan_lookup_reason(cpu, sizeof cpu, parent, sizeof parent, strings, sizeof strings, name, 1) == 0);
+    p = yebkuzan_find_property(cpu, sizeof cpu, cpu, sizeof cpu, strings, sizeof strings, name, 1);
+    EXPECT(p.number == YEBKUZAN_REFUSAL_NOT_FOUND && p.block == 0 && p.offset == 0 && p.length == 0);
+    p = yebkuzan_find_property(cpu, sizeof cpu, parent, 13, strings, sizeof strings, name + 2, 2);
+    EXPECT(p.number == YEBKUZAN_REFUSAL_TOKEN && p.block == 0);
+    EXPECT(yebkuzan_lookup_reason(cpu, sizeof cpu, parent, sizeof parent, strings, 1, name, 1) == YEBKUZAN_REFUSAL_NAME);
+}
+
+static void resolver(YebkuzanRecord record)
+{
+    const YebkuzanGrants grants = { { { 0 } }, { { 0 } }, UINT64_MAX, UINT64_MAX };
+    const YebkuzanGrants none = { { { 0 } }, { { 4 } }, 0, 0 };
+    uint8_t out[4] = { 9, 9, 9, 9 };
+    YebkuzanPermitted p = yebkuzan_permitted(record, YEBKUZAN_LEVEL_USER, grants);
+    YebkuzanEnabled e = yebkuzan_enable(record, YEBKUZAN_LEVEL_USER, grants);
+    YebkuzanReach t = yebkuzan_reach_table(record);
+    YebkuzanWords w = yebkuzan_words(record, YEBKUZAN_LEVEL_USER, grants);
+    YebkuzanWritten c = yebkuzan_chain(record, YEBKUZAN_LEVEL_USER, grants, 3, out, sizeof out);
+
+    EXPECT(yebkuzan_well_formed(record) == 0);
+    EXPECT(p.number == 0 && p.set.words[0] == 11);
+    EXPECT(yebkuzan_permitted(record, YEBKUZAN_LEVEL_USER, none).set.words[0] == 13);
+    EXPECT(e.number == 0 && e.count == 2 && e.set.words[0] == 3);
+    EXPECT(t.number == 0 && t.rows.words[0] == 1 && t.rows.words[3] == 15 && t.rows.words[4] == 16 && t.rows.words[5] == 0);
+    EXPECT(w.number == 0 && w.hwcap_first == 4 && w.hwcap_second == 8 && w.fscr == 0x200 && w.hfscr == 0);
+    EXPECT(c.number == 0 && c.length == 2 && out[0] == 3 && out[1] == 2 && out[2] == 9);
+    e = yebkuzan_enable_by_table(record, t.rows, YEBKUZAN_LEVEL_HYPERVISOR, none);
+    EXPECT(e.number == 0 && e.count == 5 && e.set.words[0] == 31);
+    EXPECT(yebkuzan_chain(record, YEBKUZAN_LEVEL_USER, grants, 5, out, 4).number == YEBKUZAN_REFUSAL_POSITION);
+    EXPECT(yebkuzan_chain(record, YEBKUZAN_LEVEL_USER, grants, 0, out, 4).number == YEBKUZAN_REFUSAL_FEATURE_ENABLED);
+    out[0] = 7;
+    c = yebkuzan_chain(record, YEBKUZAN_LEVEL_USER, grants, 3, out, 1);
+    EXPECT(c.number == YEBKUZAN_REFUSAL_BUFFER_LENGTH && c.length == 0 && out[0] == 7);
+    EXPECT(yebkuzan_words(record, 3, grants).number == YEBKUZAN_REFUSAL_LEVEL);
+    record.count = YEBKUZAN_MOST_FEATURES + 1;
+    EXPECT(yebkuzan_well_formed(record) == YEBKUZAN_REFUSAL_RECORD_FORM);
+    EXPECT(yebkuzan_permitted(record, 3, grants).number == YEBKUZAN_REFUSAL_RECORD_FORM);
+    t = yebkuzan_reach_table(record);
+    EXPECT(t.number == YEBKUZAN_REFUSAL_RECORD_FORM && t.rows.words[0] == 0);
+    e = yebkuzan_enable_by_table(record, t.rows, YEBKUZAN_LEVEL_USER, grants);
+    EXPECT(e.number == YEBKUZAN_REFUSAL_RECORD_FORM && e.count == 0 && e.set.words[0] == 0);
+}
+
+static void tree(const char *path)
+{
+    static uint8_t bytes[YEBKUZAN_LARGEST_TREE];
+    FILE *file = fopen(path, "rb");
+    size_t length = file == NULL ? 0 : fread(bytes, 1, sizeof bytes, file);
+    YebkuzanRead read = yebkuzan_read(bytes, length);
+    const YebkuzanFeature *bravo = &read.record.features[1];
+
+    EXPECT(read.number == 0 && read.place == 0 && read.record.isa == 3000 && read.record.count == 5);
+    EXPECT(strcmp((const char *)bytes + bravo->offset + 4, "bravo") == 0);
+    EXPECT(bravo->given == 0x1eb && bravo->isa == 3000 && bravo->usable_privilege == 7 && bravo->hv_support == 0);
+    EXPECT(bravo->os_support == 1 && bravo->hfscr_bit_nr == 0 && bravo->fscr_bit_nr == 9 && bravo->hwcap_bit_nr == 35);
+    EXPECT(bravo->phandle == 2 && bravo->dependencies == 1 && read.record.slots[16] == 0);
+    EXPECT(read.record.slots[48] == 1 && read.record.slots[49] == 2);
+    resolver(read.record);
+    read = yebkuzan_read(bytes, length - 1);
+    EXPECT(read.number == YEBKUZAN_REFUSAL_TREE_LENGTH && read.place == 4 && read.record.count == 0 && read.record.features[0].offset == 0);
+}
+
+int main(int argc, char **argv)
+{
+    if (argc != 2)
+        return 2;
+    tree(argv[1]);
+    sizes();
+    segments();
+    attributes();
+    unit_text();
+    properties();
+    return failures != 0;
+}
