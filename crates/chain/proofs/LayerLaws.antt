@@ -1,67 +1,42 @@
 -- Laws of layers: what one sweep leaves; where one takes nothing out, no later one does. Assumes nothing.
-use Prim.Native.Nat.{ℕ, _+_, _≤_, _<_}
-use mathlib.Core.Path.{_≡_, sym, ap, ap₂, _∙_}
-use mathlib.Core.Bool.{true, false, _&&_, cond}
+use Prim.Native.Nat.{ℕ, _≤_, _<_, min}
+use mathlib.Core.Path.{_≡_, refl, sym, ap, ap₂, _∙_}
+use mathlib.Core.Bool.{Bool, true, false, _&&_}
 use mathlib.Core.List.{List}
 use native.Mathlib.Decide.{le-ind}
 use native.Mathlib.Omega.{arith}
 use lib.Dec.{ltb}
-use Rattle.positions.specs.Sets.{setWords, room, has, collect, setOf, noMembers, withMember, isSubset}
-use Rattle.positions.proofs.BelowLaws.{and-left, and-right, and-false}
-use Rattle.positions.proofs.SetLaws.{collect-words, collect-more, has-collect}
-use Rattle.positions.proofs.MemberLaws.{insert-at, subset-at, subset-of, subset-same, subset-on}
+use Rattle.positions.specs.Sets.{setWords, room, has, common, isSubset}
+use Rattle.positions.proofs.BelowLaws.{and-left, and-right}
+use Rattle.positions.proofs.SetLaws.{has-collect, collect-is}
+use Rattle.positions.proofs.MemberLaws.{set-of-words, common-member, subset-at, subset-of, subset-same, subset-on}
 use Rattle.record.specs.Record.{mostFeatures}
-use Rattle.permitted.proofs.PermittedLaws.{none-yet}
-use Rattle.enabled.specs.Tables.{rowAt, rowOrNone}
-use Rattle.enabled.proofs.RowLaws.{row-low}
-use Rattle.chain.specs.Layers.{withLeft, isLeft, swept, layerAt}
-
--- one position of a sweep: it is left out, or left
-module _ (t s row : List ℕ) (i : ℕ) where
-  pub no-member : has s i ≡ false → t ≡ withLeft t s row i
-  unfolding withLeft
-  no-member e = rw e
-
-  pub not-inside : isSubset row s ≡ false → t ≡ withLeft t s row i
-  unfolding withLeft
-  not-inside e = rw (e, and-false)
-
-  pub is-left : {u : List ℕ} → has s i ≡ true → isSubset row s ≡ true → u ≡ withMember t i → u ≡ withLeft t s row i
-  unfolding withLeft
-  is-left e f q = q ∙ rw (e, f)
-
--- the positions below i are swept
-pub record SweptTo (table : List ℕ) (n : ℕ) (s t : List ℕ) (i : ℕ) : Type 0 where
-  pub few : n ≤ mostFeatures
-  pub within : i ≤ n
-  pub left : t ≡ collect setWords i (isLeft table s)
-
-pub swept-begins : (table s : List ℕ) {n : ℕ} {t : List ℕ} → n ≤ mostFeatures → t ≡ setOf noMembers → SweptTo table n s t 0
-swept-begins table s h e = record { few = h; within = omega arith; left = none-yet (isLeft table s) e }
-
-pub swept-more : (table s : List ℕ) {n i : ℕ} {t row new : List ℕ} → SweptTo table n s t i → i < n → row ≡ rowOrNone table i → new ≡ withLeft t s row i
-    → SweptTo table n s new (i + 1)
-unfolding withLeft isLeft
-swept-more table s {i = i} w h e f =
-    let old = collect setWords i (isLeft table s) in
-    record {
-      few = w .few;
-      within = omega arith;
-      left =
-          f
-          ∙ ap₂ (λ (t row : List ℕ). withLeft t s row i) (w .left) (e ∙ row-low table i (omega (arith, w .few)))
-          ∙ ap (λ (new : List ℕ). cond (isLeft table s i) new old) (sym (insert-at old i (collect-words setWords i (isLeft table s)) (omega (arith, w .few))))
-          ∙ collect-more setWords i (isLeft table s);
-    }
-
-pub swept-all : (table s : List ℕ) {n i : ℕ} {t : List ℕ} → SweptTo table n s t i → n ≤ i → t ≡ swept table n s
-unfolding swept
-swept-all table s {n} {i} w h = let e : i ≡ n = omega (arith, w .within) in w .left ∙ ap (λ (m : ℕ). collect setWords m (isLeft table s)) e
+use Rattle.enabled.specs.Tables.{rowAt, rowsInside}
+use Rattle.chain.specs.Layers.{isLeft, swept, layerAt}
 
 -- the members that a sweep leaves
 pub has-swept : (table s : List ℕ) (n i : ℕ) → n ≤ room → has (swept table n s) i ≡ ltb i n && isLeft table s i
 unfolding swept
 has-swept table s n i h = has-collect setWords n (isLeft table s) h i
+
+-- they are the members whose rows are inside the set
+pub layer-is : (table s : List ℕ) (n : ℕ) {rows t : List ℕ} → n ≤ mostFeatures → rows ≡ rowsInside table (min n mostFeatures) s
+    → t ≡ common s rows → t ≡ swept table n s
+unfolding swept isLeft rowsInside common isSubset
+layer-is table s n h e q =
+    let all : min n mostFeatures ≡ n = omega arith in
+    let inside : ℕ → Bool = λ i. isSubset (rowAt table i) s in
+    q ∙ ap (common s) (e ∙ ap (λ (m : ℕ). rowsInside table m s) all)
+    ∙ collect-is (common s (rowsInside table n s)) n (isLeft table s) (set-of-words (λ i. has s i && has (rowsInside table n s) i))
+    (omega arith) (λ i l.
+    common-member s (rowsInside table n s) i l
+    ∙ ap (λ (b : Bool). has s i && b) (has-collect setWords n inside (omega arith) i)
+    ∙ swap (has s i) (ltb i n) (inside i))
+  where
+    swap : (a b c : Bool) → a && (b && c) ≡ b && (a && c)
+    swap true b c = refl
+    swap false true c = refl
+    swap false false c = refl
 
 -- what a sweep leaves of a subset it leaves of the set
 swept-subset : (table s t : List ℕ) (n : ℕ) → n ≤ room → isSubset s t ≡ true → isSubset (swept table n s) (swept table n t) ≡ true

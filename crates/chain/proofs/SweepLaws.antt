@@ -22,7 +22,7 @@ same-truth true b f g = sym (f refl)
 same-truth false true f g = g refl
 same-truth false false f g = refl
 
-module _ (num : ℕ → ℕ) (dep : ℕ → ℕ → ℕ) (n : ℕ) (table : List ℕ) (shows : Shows num dep n table) (few : n ≤ room) where
+module _ (num : ℕ → ℕ) (dep : ℕ → ℕ → ℕ) (n : ℕ) (table : List ℕ) (shows : Shows num dep n (rowAt table)) (few : n ≤ room) where
   -- a row has the dependencies of its position
   pub in-row : (i j : ℕ) → i < n → j < num i → has (rowAt table i) (dep i j) ≡ true
   in-row i j h l =

@@ -14,6 +14,7 @@ use Rattle.positions.specs.Sets.{room, has}
 use Rattle.record.specs.Record.{mostFeatures}
 use Rattle.enabled.specs.Enabled.{afterSweeps, enabled}
 use Rattle.enabled.specs.Shortest.{shortestChain}
+use Rattle.enabled.specs.Tables.{rowAt}
 use Rattle.enabled.specs.Parts.{Shows}
 use Rattle.chain.specs.Chain.{chainOutcome}
 use Rattle.chain.specs.Layers.{layerAt, setAt, Falls, wayDown, AllBelow, graphChecks, ShowsSome, Tells}
@@ -39,7 +40,7 @@ module _ {table p : List ℕ} {n i : ℕ} {l : Layers} (few : n ≤ mostFeatures
   way = wayDown table (setAt (l .sets)) (l .held) i
 
   -- what the layers say of the position
-  module _ (num : ℕ → ℕ) (dep : ℕ → ℕ → ℕ) (shows : Shows num dep n table) where
+  module _ (num : ℕ → ℕ) (dep : ℕ → ℕ → ℕ) (shows : Shows num dep n (rowAt table)) where
     abbrev left : ℕ → ℕ → Bool
     left = afterSweeps num dep (has p)
 
@@ -72,7 +73,7 @@ module _ {table p : List ℕ} {n i : ℕ} {l : Layers} (few : n ≤ mostFeatures
       bytes = λ num dep shows. sym (stops (λ (m : ℕ). old) 0 1 _ _ (stop num dep shows));
     }
       where
-        stop : (num : ℕ → ℕ) (dep : ℕ → ℕ → ℕ) → Shows num dep n table → Stops 1 (graphChecks num dep n p i (length old))
+        stop : (num : ℕ → ℕ) (dep : ℕ → ℕ → ℕ) → Shows num dep n (rowAt table) → Stops 1 (graphChecks num dep n p i (length old))
         stop num dep shows = (lt→ltb i n low, rw (sym (layer num dep shows n i low) ∙ f .stays e) tt)
 
     pub tells-short : l .enabled ≡ false → length old < l .held + 1 → chainOutcome t ≡ refuse 0 18 → Tells table n p i old old t
@@ -82,7 +83,7 @@ module _ {table p : List ℕ} {n i : ℕ} {l : Layers} (few : n ≤ mostFeatures
       bytes = λ num dep shows. sym (stops (λ (m : ℕ). old) 0 2 _ _ (stop num dep shows));
     }
       where
-        stop : (num : ℕ → ℕ) (dep : ℕ → ℕ → ℕ) → Shows num dep n table → Stops 2 (graphChecks num dep n p i (length old))
+        stop : (num : ℕ → ℕ) (dep : ℕ → ℕ → ℕ) → Shows num dep n (rowAt table) → Stops 2 (graphChecks num dep n p i (length old))
         stop num dep shows =
             let long = length (shortestChain num dep (has p) room n i) in
             (lt→ltb i n low, (rw (left-out num dep shows e) tt, lt→nleb long (length old) (omega (arith, length-is num dep shows e))))
@@ -95,7 +96,7 @@ module _ {table p : List ℕ} {n i : ℕ} {l : Layers} (few : n ≤ mostFeatures
       bytes = λ num dep shows. w ∙ ap (written old 0) (way-is num dep shows e .0) ∙ sym (passes (λ (m : ℕ). old) _ _ (pass num dep shows));
     }
       where
-        pass : (num : ℕ → ℕ) (dep : ℕ → ℕ → ℕ) → Shows num dep n table → Passes (graphChecks num dep n p i (length old))
+        pass : (num : ℕ → ℕ) (dep : ℕ → ℕ → ℕ) → Shows num dep n (rowAt table) → Passes (graphChecks num dep n p i (length old))
         pass num dep shows =
             let long = length (shortestChain num dep (has p) room n i) in
             (lt→ltb i n low, (rw (left-out num dep shows e) tt, (le→leb long (length old) (omega (arith, length-is num dep shows e)), tt)))

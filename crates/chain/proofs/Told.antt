@@ -2,10 +2,10 @@
 use Prim.Native.Nat.{ℕ, _≤_, _<_}
 use mathlib.Core.Path.{_≡_, refl, ap, _∙_}
 use mathlib.Core.Bool.{true, false}
-use mathlib.Core.List.{List, _++_}
+use mathlib.Core.List.{List}
 use native.Mathlib.Omega.{arith}
 use lib.Dec.{le→leb, lt→ltb}
-use lib.ListN.{length, take, drop}
+use lib.ListN.{length, take}
 use lib.Seq.{take-at}
 use Rattle.refusal.specs.Refusal.{answer, refuse}
 use Rattle.refusal.proofs.Checks.{Passes, passes}
@@ -19,7 +19,7 @@ use Rattle.permitted.specs.Asked.{askedChecks}
 use Rattle.enabled.specs.Graph.{Below}
 use Rattle.enabled.specs.Chain.{Chain, Shortest, Smallest}
 use Rattle.enabled.specs.Tables.{dependenciesIn, dependencyIn}
-use Rattle.enabled.proofs.NeedsLaws.{shows-record}
+use Rattle.enabled.proofs.DependencyLaws.{graph-below}
 use Rattle.enabled.proofs.AnswerLaws.{few}
 use Rattle.enabled.proofs.Demand3.{reported-chain, reported-shortest, reported-smallest, reported-fits}
 use Rattle.chain.specs.Chain.{isEnabled, chainIn, chainChecks, chain, afterChain}
@@ -27,7 +27,7 @@ use Rattle.chain.specs.Chain.{isEnabled, chainIn, chainChecks, chain, af
 -- a position of a well formed record that is not enabled, where the members of a set are permitted
 module _ (r : Record) (good : wellFormed r ≡ true) (permitted : List ℕ) (i : ℕ) (low : i < r .count) (out : isEnabled r permitted i ≡ false) where
   graph : Below (r .count) (dependenciesIn r) (dependencyIn r)
-  graph = shows-record r good .below
+  graph = graph-below r good
 
   -- "A chain starts at the feature asked about, each next is a dependency of the one before, the last is unpermitted"
   pub told-chain : Chain (dependenciesIn r) (dependencyIn r) (has permitted) i (chainIn r permitted i)

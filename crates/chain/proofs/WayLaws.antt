@@ -25,7 +25,7 @@ unfolding wayDown
 way-length table layers zero i = omega arith
 way-length table layers (suc k) i = omega (arith, way-length table layers k (nextBelow table (layers k) i))
 
-module _ (num : ℕ → ℕ) (dep : ℕ → ℕ → ℕ) (n : ℕ) (table : List ℕ) (shows : Shows num dep n table) (few : n ≤ room) (permitted : ℕ → Bool) where
+module _ (num : ℕ → ℕ) (dep : ℕ → ℕ → ℕ) (n : ℕ) (table : List ℕ) (shows : Shows num dep n (rowAt table)) (few : n ≤ room) (permitted : ℕ → Bool) where
   abbrev left : ℕ → ℕ → Bool
   left = afterSweeps num dep permitted
 

@@ -1,7 +1,7 @@
 -- What the functions behind the chain promise: what each sweep leaves, and the way down from a position (document 01, "Permitted and enabled").
 use Prim.Native.Nat.{ℕ, zero, suc, _≤_, _<_}
 use mathlib.Core.Path.{_≡_}
-use mathlib.Core.Bool.{Bool, true, false, not, _&&_, cond}
+use mathlib.Core.Bool.{Bool, true, false, not, _&&_}
 use mathlib.Core.List.{List, [], _∷_}
 use lib.Dec.{leb, ltb}
 use lib.ListN.{length, getD}
@@ -10,7 +10,7 @@ use Rattle.refusal.specs.Checks.{Check, check, firstFault}
 use Rattle.cells.specs.Buffer.{written}
 use Rattle.positions.specs.declared.Set.{Set}
 use Rattle.positions.specs.Below.{firstThat}
-use Rattle.positions.specs.Sets.{setWords, room, has, collect, withMember, isSubset, memberOutside}
+use Rattle.positions.specs.Sets.{setWords, room, has, collect, isSubset, memberOutside}
 use Rattle.enabled.specs.Enabled.{enabled}
 use Rattle.enabled.specs.Shortest.{shortestChain}
 use Rattle.enabled.specs.Tables.{rowAt}
@@ -18,10 +18,6 @@ use Rattle.enabled.specs.Parts.{Shows}
 use Rattle.chain.specs.Chain.{chainOutcome}
 use Rattle.chain.specs.declared.ChainTold.{ChainTold}
 use Rattle.chain.specs.declared.Layers.{Layers}
-
--- a set with i where i is a member of s and a row is inside s
-unfoldable pub withLeft : List ℕ → List ℕ → List ℕ → ℕ → List ℕ
-withLeft set s row i = cond (has s i && isSubset row s) (withMember set i) set
 
 -- one sweep: the members of s below n whose rows are inside s
 unfoldable pub isLeft : List ℕ → List ℕ → ℕ → Bool
@@ -73,11 +69,11 @@ graphChecks num dep n permitted i size =
 pub record ShowsSome (n : ℕ) (table : List ℕ) : Type 0 where
   pub num : ℕ → ℕ
   pub dep : ℕ → ℕ → ℕ
-  pub shows : Shows num dep n table
+  pub shows : Shows num dep n (rowAt table)
 
 -- how the call ends, and the later bytes of the lent buffer, by every graph that a table shows
 pub record Tells (table : List ℕ) (n : ℕ) (permitted : List ℕ) (i : ℕ) (old new : List ℕ) (t : ChainTold) : Type 0 where
-  pub outcome : (num : ℕ → ℕ) (dep : ℕ → ℕ → ℕ) → Shows num dep n table
+  pub outcome : (num : ℕ → ℕ) (dep : ℕ → ℕ → ℕ) → Shows num dep n (rowAt table)
       → chainOutcome t ≡ firstFault (refuse 0) (graphChecks num dep n permitted i (length old)) (answer (length (shortestChain num dep (has permitted) room n i)))
-  pub bytes : (num : ℕ → ℕ) (dep : ℕ → ℕ → ℕ) → Shows num dep n table
+  pub bytes : (num : ℕ → ℕ) (dep : ℕ → ℕ → ℕ) → Shows num dep n (rowAt table)
       → new ≡ firstFault (λ (m : ℕ). old) (graphChecks num dep n permitted i (length old)) (written old 0 (shortestChain num dep (has permitted) room n i))

@@ -11,7 +11,7 @@ ghost use lib.ListN.{length};
 ghost use Rattle.refusal.specs.Refusal.{refuse, numberOf};
 ghost use Rattle.cells.specs.Buffer.{written};
 ghost use Rattle.record.specs.Record.{mostFeatures};
-ghost use Rattle.chain.specs.Layers.{withLeft, swept, setAt, Falls, wayDown, AllBelow, ShowsSome, Tells};
+ghost use Rattle.chain.specs.Layers.{swept, setAt, Falls, wayDown, AllBelow, ShowsSome, Tells};
 ghost use Rattle.chain.specs.Chain.{chain as chainOf, afterChain, chainOutcome};
 
 // A refusal, or how many positions the chain has; 0 beside a refusal.
@@ -28,32 +28,13 @@ struct Layers {
     sets: [Set; MOST_FEATURES],
 }
 
-// A set with `i` where `s` has `i` and the set `x` is inside `s`.
-fn with_left(t: Set, s: Set, x: Set, i: usize) -> Set
-    ensures { λ r. ⌜ r .words ≡ withLeft (t .words) (s .words) (x .words) i ⌝ }
-{
-    if !positions::member(s, i) {
-        return t;
-    }
-    if !positions::subset(x, s) {
-        return t;
-    }
-    positions::insert(t, i)
-}
-
 // One sweep: the members of a set among the first `n` positions whose rows are inside it. `n` rounds: each reads a row and compares it,
 // two steps a word.
 fn layer(table: &[u64; TABLE_WORDS], n: usize, s: Set) -> Set
     requires { ⌜ n ≤ mostFeatures ⌝ }
     ensures { λ r. ⌜ r .words ≡ swept (now (table .entry)) n (s .words) ⌝ }
 {
-    let mut t = positions::empty();
-    let mut i: usize = 0;
-    while i < n {
-        t = with_left(t, s, enabled::row(table, i), i);
-        i += 1;
-    }
-    t
+    positions::intersection(s, enabled::inside_rows(table, n, s))
 }
 
 // The layers of a set that hold position `i`. At most `n` rounds: each is one sweep, and compares two sets, a step a word.
@@ -150,16 +131,12 @@ pub fn chain(r: Record, level: u32, g: Grants, position: u32, out: &mut [u8]) ->
     ensures { λ t. ⌜ chainOutcome t ≡ chainOf r level g position (length (now (out .entry))) ⌝ }
     ensures { λ t. ⌜ now (out .exit) ≡ afterChain r level g position (now (out .entry)) ⌝ }
 {
-    let refusal = permitted::asked(r, level);
+    let x = permitted::examine(r, level, g);
+    let refusal = x.refusal;
     if refusal::number(refusal) != 0 {
         return refused(refusal);
     }
-    let rows = enabled::needs(r);
-    chain_in(
-        &rows.words,
-        r.count as usize,
-        permitted::permitted_set(r, level, g),
-        position as usize,
-        out,
-    )
+    let n = cells::least(r.count as usize, MOST_FEATURES);
+    let rows = enabled::dependency_rows(&r.slots, &x.counts, n);
+    chain_in(&rows.words, n, x.set, position as usize, out)
 }

@@ -10,8 +10,8 @@ use Rattle.positions.proofs.MemberLaws.{insert-at}
 use Rattle.positions.proofs.SetCodeLaws.{zero-words}
 use Rattle.record.specs.Record.{mostFeatures}
 use Rattle.enabled.specs.Reach.{enabledByReach}
-use Rattle.enabled.specs.Tables.{rowAt, inRow}
-use Rattle.enabled.specs.Parts.{addedIn, rowsInside}
+use Rattle.enabled.specs.Tables.{rowAt, inRow, rowsInside}
+use Rattle.enabled.specs.Parts.{addedIn}
 
 -- the two answers of `added`
 pub added-in : (s row permitted : List ℕ) (i : ℕ) → isSubset row permitted ≡ true → withMember s i ≡ addedIn s row permitted i

@@ -108,7 +108,8 @@ module _ (n k : ℕ) (few : n ≤ mostFeatures) (kn : k < n) (old : List ℕ) wh
 -- the positions below k are let through
 pub record Closes (table : List ℕ) (n k : ℕ) (words : List ℕ) : Type 0 where
   pub within : k ≤ n
-  pub shows : (num : ℕ → ℕ) (dep : ℕ → ℕ → ℕ) → Shows num dep n table → (R : ℕ → ℕ → Bool) × Through num dep n k R × (words ≡ tableOf n R)
+  pub shows : (num : ℕ → ℕ) (dep : ℕ → ℕ → ℕ) → Shows num dep n (rowAt table)
+      → (R : ℕ → ℕ → Bool) × Through num dep n k R × (words ≡ tableOf n R)
 
 module _ (table : List ℕ) (n : ℕ) (few : n ≤ mostFeatures) where
   pub closes-none : (words : List ℕ) → words ≡ tableOf n (withSelf table) → Closes table n 0 words

@@ -9,7 +9,9 @@ pub mod Shortest
 pub mod Demand3
 pub mod RowLaws
 pub mod TableLaws
-pub mod NeedsLaws
+pub mod SlotLaws
+pub mod DependencyLaws
+pub mod CountLaws
 pub mod PassLaws
 pub mod SweepLaws
 pub mod ThroughLaws

@@ -18,7 +18,7 @@ use Rattle.record.specs.Record.{mostFeatures}
 use Rattle.enabled.specs.Tables.{rowAt, rowOrNone}
 use Rattle.enabled.specs.Parts.{withRow}
 
-each-at : (n : ℕ) (f : ℕ → ℕ) (j : ℕ) → j < n → getD (each n f) j 0 ≡ f j
+pub each-at : (n : ℕ) (f : ℕ → ℕ) (j : ℕ) → j < n → getD (each n f) j 0 ≡ f j
 each-at zero f j h = absurd (omega arith)
 each-at (suc n) f j h = go (decLt j n) (each-at n f j)
   where

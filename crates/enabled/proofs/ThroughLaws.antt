@@ -14,7 +14,7 @@ use Rattle.positions.proofs.BelowLaws.{no-way, and-left, and-right, some-at, so
 use Rattle.record.specs.Record.{mostFeatures}
 use Rattle.enabled.specs.Graph.{Below}
 use Rattle.enabled.specs.Reach.{Needs, self, via, reach}
-use Rattle.enabled.specs.Tables.{inRow}
+use Rattle.enabled.specs.Tables.{rowAt, inRow}
 use Rattle.enabled.specs.Parts.{Shows, withSelf, through}
 use Rattle.enabled.proofs.Reach.{reach-needs, needs-below, needs-reach}
 
@@ -102,7 +102,7 @@ module _ (num : ℕ → ℕ) (dep : ℕ → ℕ → ℕ) (n : ℕ) where
           go false q true r = no-way (R i t) (holds h (reach-needs num dep n i t r)) q
 
     -- none let through: each position with its dependencies and itself
-    pub through-none : (table : List ℕ) → Shows num dep n table → Through 0 (withSelf table)
+    pub through-none : (table : List ℕ) → Shows num dep n (rowAt table) → Through 0 (withSelf table)
     unfolding withSelf
     through-none table sh =
         record {

@@ -6,10 +6,11 @@ use lib.Dec.{eqb, ltb}
 use lib.ListN.{getD}
 use Rattle.cells.specs.Rows.{each, padded}
 use Rattle.positions.specs.Below.{some}
-use Rattle.positions.specs.Sets.{setWords, has, setOf, noMembers}
+use Rattle.positions.specs.Sets.{setWords, room, has, collect, setOf, noMembers}
 use Rattle.record.specs.declared.Record.{Record}
 use Rattle.record.specs.Record.{mostFeatures, mostDependencies, featureAt, slotAt}
 use Rattle.record.specs.Cells.{dependencyCount}
+use Rattle.enabled.specs.Reach.{enabledByReach}
 
 -- the words of row i
 unfoldable pub rowAt : List ℕ → ℕ → List ℕ
@@ -42,7 +43,12 @@ dependenciesIn r i = dependencyCount (featureAt r i)
 abbrev pub dependencyIn : Record → ℕ → ℕ → ℕ
 dependencyIn r i j = slotAt r i j
 
--- a row of its dependencies for each feature; a record has at most 64 of these, and sixteen of those each
-unfoldable pub dependencyTable : Record → List ℕ
-dependencyTable r =
-    tableOf (min (r .count) mostFeatures) (λ (i t : ℕ). some (min (dependenciesIn r i) mostDependencies) (λ (j : ℕ). eqb (dependencyIn r i j) t))
+-- a row of the first slots of each of n positions, as many as are counted; there are at most 64 positions, and sixteen slots of each
+unfoldable pub dependencyTable : List ℕ → List ℕ → ℕ → List ℕ
+dependencyTable slots counts n =
+    tableOf (min n mostFeatures)
+    (λ (i t : ℕ). some (min (getD counts i 0) mostDependencies) (λ (j : ℕ). eqb (getD slots (mostDependencies * i + j) 0) t))
+
+-- those of the first n positions whose rows hold only members of a set
+unfoldable pub rowsInside : List ℕ → ℕ → List ℕ → List ℕ
+rowsInside table n s = collect setWords n (enabledByReach (inRow table) (has s) room)

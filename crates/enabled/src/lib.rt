@@ -1,5 +1,6 @@
 // The largest closed part of a set of permitted positions: rows of dependencies, the sweep, the reach table, and the set by the table.
 use permitted::Grants;
+use permitted::USER;
 use positions::Set;
 use positions::WORDS;
 use record::MOST_DEPENDENCIES;
@@ -8,13 +9,10 @@ use record::Record;
 use record::SLOTS;
 use refusal::Refusal;
 ghost use mathlib.Core.Path.{_≡_};
-ghost use mathlib.Core.Bool.{true};
 ghost use Rattle.refusal.specs.Refusal.{answer, refuse, numberOf};
-ghost use Rattle.record.specs.WellFormed.{wellFormed};
 ghost use Rattle.enabled.specs.Answers.{
   membersOf,
   nobody as nobodyOf,
-  enabledSet,
   enable as enableOf,
   reachOf,
   enableByTable,
@@ -22,13 +20,16 @@ ghost use Rattle.enabled.specs.Answers.{
   reachOutcome,
 };
 ghost use Prim.Native.Nat.{_≤_, _<_, min};
+ghost use Rattle.positions.specs.Sets.{room, isSubset};
 ghost use Rattle.record.specs.Record.{mostFeatures, mostDependencies};
-ghost use Rattle.enabled.specs.Tables.{rowOrNone, tableOf, dependencyTable};
+ghost use Rattle.enabled.specs.Tables.{rowOrNone, tableOf, dependencyTable, rowsInside};
 ghost use Rattle.enabled.specs.Parts.{
   withRow,
   slotSet,
+  SlotsBelow,
+  slotRow,
+  Counted,
   keptIn,
-  TakesOut,
   Passes,
   Enables,
   withSelf,
@@ -36,7 +37,6 @@ ghost use Rattle.enabled.specs.Parts.{
   Joins,
   Reaches,
   addedIn,
-  rowsInside,
 };
 
 pub const TABLE_WORDS: usize = WORDS * MOST_FEATURES;
@@ -60,15 +60,15 @@ pub struct ReachTable {
     pub rows: Rows,
 }
 
-// The smaller of two numbers.
-fn least(a: usize, b: usize) -> usize
-    ensures { λ r. ⌜ r ≡ min a b ⌝ }
-{
-    if a < b { a } else { b }
-}
-
 // A slot as a position.
 fn wide(x: u16) -> usize
+    ensures { λ r. ⌜ r ≡ x ⌝ }
+{
+    x as usize
+}
+
+// A count of slots as a number of rounds.
+fn amount(x: u32) -> usize
     ensures { λ r. ⌜ r ≡ x ⌝ }
 {
     x as usize
@@ -116,75 +116,100 @@ fn dependencies(slots: &[u16; SLOTS], i: usize, n: usize) -> Set
     s
 }
 
-// The dependencies of each feature of a record, as rows: at most 64 rounds, each of at most sixteen slots and one row.
-pub fn needs(r: Record) -> Rows
-    ensures { λ x. ⌜ x .words ≡ dependencyTable r ⌝ }
+// The first slots of each of `n` positions, as many as are counted, as rows: at most 64 rounds, each of at most sixteen slots and one row.
+pub fn dependency_rows(slots: &[u16; SLOTS], counts: &[u32; MOST_FEATURES], n: usize) -> Rows
+    ensures { λ r. ⌜ r .words ≡ dependencyTable (now (slots .entry)) (now (counts .entry)) n ⌝ }
 {
-    let n = least(r.count as usize, MOST_FEATURES);
+    let rows = cells::least(n, MOST_FEATURES);
     let mut words: [u64; TABLE_WORDS] = [0; TABLE_WORDS];
     let mut i: usize = 0;
-    while i < n {
-        let f = r.features[i];
-        let m = least(record::dependency_count(f) as usize, MOST_DEPENDENCIES);
-        put_row(&mut words, i, dependencies(&r.slots, i, m));
+    while i < rows {
+        let m = cells::least(amount(counts[i]), MOST_DEPENDENCIES);
+        put_row(&mut words, i, dependencies(slots, i, m));
         i += 1;
     }
     Rows { words }
 }
 
-// A set without `i` where the set `x` is not inside it.
-fn kept(s: Set, x: Set, i: usize) -> Set
-    ensures { λ r. ⌜ r .words ≡ keptIn (s .words) (x .words) i ⌝ }
+// Whether the first `m` slots of position `i` are all members of a set: a round for each slot, up to the first that is not.
+fn inside(slots: &[u16; SLOTS], i: usize, m: usize, s: Set) -> bool
+    requires { ⌜ (i < mostFeatures) × (m ≤ mostDependencies) × SlotsBelow (now slots) i m room ⌝ }
+    ensures { λ r. ⌜ r ≡ isSubset (slotSet (now (slots .entry)) i m) (s .words) ⌝ }
 {
-    if positions::subset(x, s) {
+    let mut j: usize = 0;
+    while j < m {
+        if !positions::member(s, wide(slots[MOST_DEPENDENCIES * i + j])) {
+            return false;
+        }
+        j += 1;
+    }
+    true
+}
+
+// A set without position `i` where that is a member whose first `m` slots are not all members.
+fn kept(slots: &[u16; SLOTS], i: usize, m: usize, s: Set) -> Set
+    requires { ⌜ (i < mostFeatures) × (m ≤ mostDependencies) × SlotsBelow (now slots) i m room ⌝ }
+    ensures { λ r. ⌜ r .words ≡ keptIn (s .words) (slotSet (now (slots .entry)) i m) i ⌝ }
+{
+    if !positions::member(s, i) {
+        return s;
+    }
+    if inside(slots, i, m, s) {
         return s;
     }
     positions::remove(s, i)
 }
 
-// One pass over the rows from the first to the last: each member whose row is not inside the set is taken out. `n` rounds, each of
-// one row: a read and a test for each of its words, and one word changed.
-fn up(table: &[u64; TABLE_WORDS], n: usize, s: Set) -> Set
-    requires { ⌜ n ≤ mostFeatures ⌝ }
-    ensures { λ r. ⌜ Passes (now (table .entry)) n n (s .words) (r .words) ⌝ }
+// One pass over the first `n` positions from the first to the last: each member that has a dependency outside the set is taken out. `n`
+// rounds, each of at most sixteen slots.
+fn up(slots: &[u16; SLOTS], counts: &[u32; MOST_FEATURES], n: usize, s: Set) -> Set
+    requires { ⌜ (n ≤ mostFeatures) × Counted (now slots) (now counts) n ⌝ }
+    ensures { λ r. ⌜ Passes (slotRow (now (slots .entry)) (now (counts .entry))) n 0 n (s .words) (r .words) ⌝ }
 {
     let mut t = s;
     let mut i: usize = 0;
     while i < n {
-        t = kept(t, row(table, i), i);
+        t = kept(slots, i, amount(counts[i]), t);
         i += 1;
     }
     t
 }
 
-// The same from the last row to the first, in as many rounds.
-fn down(table: &[u64; TABLE_WORDS], n: usize, s: Set) -> Set
-    requires { ⌜ n ≤ mostFeatures ⌝ }
-    ensures { λ r. ⌜ TakesOut (now (table .entry)) n (s .words) (r .words) ⌝ }
+// The same from the last position to the first, in as many rounds.
+fn down(slots: &[u16; SLOTS], counts: &[u32; MOST_FEATURES], n: usize, s: Set) -> Set
+    requires { ⌜ (n ≤ mostFeatures) × Counted (now slots) (now counts) n ⌝ }
+    ensures { λ r. ⌜ Passes (slotRow (now (slots .entry)) (now (counts .entry))) n 0 n (s .words) (r .words) ⌝ }
 {
     let mut t = s;
     let mut i = n;
     while 0 < i {
         i -= 1;
-        let x = row(table, i);
-        t = kept(t, x, i);
+        t = kept(slots, i, amount(counts[i]), t);
     }
     t
 }
 
-// The enabled positions below `n`: passes over the rows, up and down, until nothing changes. Each round is `2 * n` rows, and each but
-// the last takes a member out, so there are at most `n + 1` rounds; a chain of dependencies in one direction falls in the first.
-fn sweep(table: &[u64; TABLE_WORDS], n: usize, p: Set) -> Set
-    requires { ⌜ n ≤ mostFeatures ⌝ }
-    ensures { λ r. ⌜ Enables (now (table .entry)) n (p .words) (r .words) ⌝ }
+// The enabled positions below `n`: all at once where all are permitted; else what passes up and down in turn leave, until one takes nothing
+// out. Each pass but the last takes a member out, so there are at most `n + 1` passes of `n` positions, each of at most sixteen slots; a
+// chain of dependencies in one direction falls in the first pass or the second.
+fn sweep(slots: &[u16; SLOTS], counts: &[u32; MOST_FEATURES], n: usize, p: Set) -> Set
+    requires { ⌜ (n ≤ mostFeatures) × Counted (now slots) (now counts) n ⌝ }
+    ensures { λ r. ⌜ Enables (slotRow (now (slots .entry)) (now (counts .entry))) n (p .words) (r .words) ⌝ }
 {
-    let mut s = positions::intersection(p, positions::below(n));
+    let all = positions::below(n);
+    let mut s = positions::intersection(p, all);
+    if positions::subset(all, s) {
+        return s;
+    }
     loop {
-        let t = down(table, n, up(table, n, s));
+        let t = up(slots, counts, n, s);
         if positions::subset(s, t) {
             return t;
         }
-        s = t;
+        s = down(slots, counts, n, t);
+        if positions::subset(t, s) {
+            return s;
+        }
     }
 }
 
@@ -251,14 +276,14 @@ fn added(s: Set, x: Set, p: Set, i: usize) -> Set
     s
 }
 
-// Those of the first `n` positions whose rows hold only members of `p`: `n` rounds, each of one row: a read and a test for each word.
-fn inside_rows(table: &[u64; TABLE_WORDS], n: usize, p: Set) -> Set
-    requires { ⌜ n ≤ mostFeatures ⌝ }
-    ensures { λ r. ⌜ r .words ≡ rowsInside (now (table .entry)) n (p .words) ⌝ }
+// Those of the first `n` positions whose rows hold only members of `p`: at most 64 rounds, each of one row: a read and a test a word.
+pub fn inside_rows(table: &[u64; TABLE_WORDS], n: usize, p: Set) -> Set
+    ensures { λ r. ⌜ r .words ≡ rowsInside (now (table .entry)) (min n mostFeatures) (p .words) ⌝ }
 {
+    let m = cells::least(n, MOST_FEATURES);
     let mut s = positions::empty();
     let mut i: usize = 0;
-    while i < n {
+    while i < m {
         s = added(s, row(table, i), p, i);
         i += 1;
     }
@@ -286,42 +311,44 @@ fn counted(set: Set) -> Enabled
     }
 }
 
-// The enabled positions of a record, where those of a set are permitted.
-fn enabled_set(r: Record, p: Set) -> Set
-    requires { ⌜ wellFormed r ≡ true ⌝ }
-    ensures { λ s. ⌜ s .words ≡ enabledSet r (p .words) ⌝ }
-{
-    let table = needs(r);
-    sweep(&table.words, r.count as usize, p)
-}
-
 // The enabled set, from record, level and grants alone.
 pub fn enable(r: Record, level: u32, g: Grants) -> Enabled
     ensures { λ e. ⌜ enabledOutcome e ≡ enableOf r level g ⌝ }
 {
-    let refusal = permitted::asked(r, level);
+    let x = permitted::examine(r, level, g);
+    let refusal = x.refusal;
     if refusal::number(refusal) != 0 {
         return nobody(refusal);
     }
-    counted(enabled_set(r, permitted::permitted_set(r, level, g)))
+    let n = cells::least(r.count as usize, MOST_FEATURES);
+    counted(sweep(&r.slots, &x.counts, n, x.set))
 }
 
-// The reach table of a record.
+// The reach table of a record, which is examined at user level without grants: only number 14 can refuse that.
 pub fn reach_table(r: Record) -> ReachTable
     ensures { λ t. ⌜ reachOutcome t ≡ reachOf r ⌝ }
 {
-    if !record::well_formed(r) {
+    let none = Grants {
+        hypervisor: positions::empty(),
+        system: positions::empty(),
+        hfscr: 0,
+        fscr: 0,
+    };
+    let x = permitted::examine(r, USER, none);
+    let refusal = x.refusal;
+    if refusal::number(refusal) != 0 {
         return ReachTable {
-            refusal: Refusal::RecordForm,
+            refusal,
             rows: Rows {
                 words: [0; TABLE_WORDS],
             },
         };
     }
-    let table = needs(r);
+    let n = cells::least(r.count as usize, MOST_FEATURES);
+    let table = dependency_rows(&r.slots, &x.counts, n);
     ReachTable {
         refusal: Refusal::None,
-        rows: reach_rows(&table.words, r.count as usize),
+        rows: reach_rows(&table.words, n),
     }
 }
 
@@ -329,10 +356,10 @@ pub fn reach_table(r: Record) -> ReachTable
 pub fn enable_by_table(r: Record, table: Rows, level: u32, g: Grants) -> Enabled
     ensures { λ e. ⌜ enabledOutcome e ≡ enableByTable r (table .words) level g ⌝ }
 {
-    let refusal = permitted::asked(r, level);
+    let x = permitted::examine(r, level, g);
+    let refusal = x.refusal;
     if refusal::number(refusal) != 0 {
         return nobody(refusal);
     }
-    let p = permitted::permitted_set(r, level, g);
-    counted(inside_rows(&table.words, r.count as usize, p))
+    counted(inside_rows(&table.words, r.count as usize, x.set))
 }

@@ -19,17 +19,11 @@ pub enum NameRead {
     Bad,
 }
 
-fn least(a: usize, b: usize) -> usize
-    ensures { λ r. ⌜ r ≡ min a b ⌝ }
-{
-    if a < b { a } else { b }
-}
-
 // Where a search for a name's zero byte stops: the block's end, or past the longest name.
 fn search_end(s: &[u8], from: usize, end: usize, most: usize) -> usize
     ensures { λ r. ⌜ r ≡ min (min (length (now (s .entry))) end) (from + most + 1) ⌝ }
 {
-    let stop = least(s.len(), end);
+    let stop = cells::least(s.len(), end);
     if stop <= from {
         return stop;
     }
@@ -115,7 +109,7 @@ pub fn root_name(s: &[u8], from: usize, end: usize) -> bool
 pub fn same_name(s: &[u8], p: usize, q: usize, end: usize) -> bool
     ensures { λ r. ⌜ r ≡ sameText (textAt (now (s .entry)) p end) (textAt (now (s .entry)) q end) ⌝ }
 {
-    let stop = least(s.len(), end);
+    let stop = cells::least(s.len(), end);
     let mut i = p;
     let mut j = q;
     while i < stop {
@@ -139,7 +133,7 @@ pub fn same_name(s: &[u8], p: usize, q: usize, end: usize) -> bool
 pub fn has_name(s: &[u8], from: usize, end: usize, name: &[u8]) -> bool
     ensures { λ r. ⌜ r ≡ sameText (textAt (now (s .entry)) from end) (ended (now (name .entry))) ⌝ }
 {
-    let stop = least(s.len(), end);
+    let stop = cells::least(s.len(), end);
     let mut i = from;
     let mut j = 0;
     while i < stop {

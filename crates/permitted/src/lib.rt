@@ -13,7 +13,8 @@ ghost use Rattle.positions.specs.Sets.{has, withMember};
 ghost use Rattle.permitted.specs.Permitted.{isUsable, isGranted, byRegister, isSupported, isSupportedBelow, isPermitted};
 ghost use Rattle.permitted.specs.Asked.{nothingSeen, examined, examinedOutcome, permitted as permittedOf, permittedOutcome};
 
-// The levels: 0 is user.
+pub const USER: u32 = 0;
+
 pub const SYSTEM: u32 = 1;
 
 pub const HYPERVISOR: u32 = 2;

@@ -5,7 +5,7 @@ use borrow.Author.Needs.{needs}
 use native.Mathlib.Omega.{arith}
 use Rattle.positions.specs.Sets.{withMember}
 use Rattle.enabled.specs.Parts.{slotSet}
-use Rattle.enabled.proofs.NeedsLaws.{slots-none, slots-more}
+use Rattle.enabled.proofs.SlotLaws.{slots-none, slots-more}
 use Rattle.enabled.proofs.dependencies.Statement.{statement}
 use Rattle.enabled.proofs.dependencies.Tie as tie
 

@@ -1,13 +1,12 @@
 -- `enabled::enable_by_table` meets its contract. Assumes nothing.
 use mathlib.Core.Path.{sym, _∙_}
-use Rattle.permitted.proofs.AskedLaws.{asked-formed}
-use Rattle.enabled.proofs.AnswerLaws.{few, table-refused, table-answered}
+use Rattle.enabled.proofs.AnswerLaws.{table-refused, table-answered}
 use borrow.Author.Needs.{needs}
 use Rattle.enabled.proofs.enable_by_table.Statement.{statement}
 use Rattle.enabled.proofs.enable_by_table.Tie as tie
 
-asked-requires : tie.Need-asked-requires
-asked-requires c κs = search needs
+examine-requires : tie.Need-examine-requires
+examine-requires c κs = search needs
 
 number-requires : tie.Need-number-requires
 number-requires c κs = search needs
@@ -16,32 +15,30 @@ nobody-requires : tie.Need-nobody-requires
 nobody-requires c κs = search needs
 
 returns : tie.Need-returns
-returns c = table-refused _ _ _ (c .before .before .before .asked .ensures) _ (λ z. c .before .if1 .taken (c .before .before .number .ensures ∙ z)) (c .nobody .ensures)
-
-permitted-set-requires : tie.Need-permitted-set-requires
-permitted-set-requires c κs = search needs
+returns c = table-refused _ _ _ (c .before .before .before .examine .ensures) (λ z. c .before .if1 .taken (c .before .before .number .ensures ∙ z)) (c .nobody .ensures) _
 
 cast-inside-rows : tie.Need-cast-inside-rows
 cast-inside-rows c = search needs
 
 inside-rows-requires : tie.Need-inside-rows-requires
-inside-rows-requires c κs = few _ (asked-formed _ _ (c .before .before .before .before .before .before .asked .ensures) (sym (c .before .before .before .before .before .number .ensures) ∙ c .before .before .before .before .if1 .left))
+inside-rows-requires c κs = search needs
 
 counted-requires : tie.Need-counted-requires
 counted-requires c κs = search needs
 
 returns-2 : tie.Need-returns-2
-returns-2 c = table-answered _ _ _ (c .before .before .before .before .before .before .before .before .asked .ensures) _ (sym (c .before .before .before .before .before .before .before .number .ensures) ∙ c .before .before .before .before .before .before .if1 .left) (c .before .before .before .before .before .permitted-set .ensures) (c .before .inside-rows .ensures) (c .counted .ensures)
+returns-2 c =
+    table-answered _ _ _ (c .before .before .before .before .before .before .before .examine .ensures) (sym (c .before .before .before .before .before .before .number .ensures) ∙ c .before .before .before .before .before .if1 .left) (c .counted .ensures) _
+    (c .before .inside-rows .ensures)
 
 pub enable-by-table-spec : {M : Type 1} → statement M
 enable-by-table-spec =
     tie.close
     (tie.spec
-    asked-requires
+    examine-requires
     number-requires
     nobody-requires
     returns
-    permitted-set-requires
     cast-inside-rows
     inside-rows-requires
     counted-requires

@@ -3,17 +3,20 @@ use Prim.Native.Nat.{_-_, _≤_}
 use mathlib.Core.Path.{_≡_, _∙_}
 use borrow.Author.Needs.{needs}
 use native.Mathlib.Omega.{arith}
-use Rattle.enabled.specs.Parts.{rowsInside}
+use Rattle.enabled.specs.Tables.{rowsInside}
 use Rattle.enabled.proofs.RowLaws.{row-low}
 use Rattle.enabled.proofs.InsideLaws.{inside-none, inside-more, inside-all}
 use Rattle.enabled.proofs.inside_rows.Statement.{statement}
 use Rattle.enabled.proofs.inside_rows.Tie as tie
 
 abbrev Inv-loop : tie.InvT-loop
-Inv-loop table n p s₀ i₀ s i = (i ≤ n) × (s .words ≡ rowsInside table i (p .words))
+Inv-loop table n p m s₀ i₀ s i = (i ≤ m) × (s .words ≡ rowsInside table i (p .words))
 
 abbrev μ-loop : tie.MeasureT-loop
-μ-loop table n p s₀ i₀ s i = n - i
+μ-loop table n p m s₀ i₀ s i = m - i
+
+least-requires : tie.Need-least-requires Inv-loop μ-loop
+least-requires c κs = search needs
 
 empty-requires : tie.Need-empty-requires Inv-loop μ-loop
 empty-requires c κs = search needs
@@ -47,6 +50,7 @@ inside-rows-spec =
     (tie.spec
     Inv-loop
     μ-loop
+    least-requires
     empty-requires
     loop-holds
     row-requires

@@ -1,36 +1,53 @@
 -- `enabled::reach_table` meets its contract. Assumes nothing.
 use mathlib.Core.Path.{sym, _∙_}
-use borrow.Author.Tests.{not-true, not-false}
-use Rattle.enabled.proofs.AnswerLaws.{few, record-refused, record-reached}
+use Rattle.enabled.proofs.AnswerLaws.{reach-refused, reach-answered}
 use borrow.Author.Needs.{needs}
 use Rattle.enabled.proofs.reach_table.Statement.{statement}
 use Rattle.enabled.proofs.reach_table.Tie as tie
 
-well-formed-requires : tie.Need-well-formed-requires
-well-formed-requires c κs = search needs
+empty-requires : tie.Need-empty-requires
+empty-requires c κs = search needs
+
+empty-requires-2 : tie.Need-empty-requires-2
+empty-requires-2 c κs = search needs
+
+examine-requires : tie.Need-examine-requires
+examine-requires c κs = search needs
+
+number-requires : tie.Need-number-requires
+number-requires c κs = search needs
 
 returns : tie.Need-returns
-returns c = record-refused _ (sym (c .before .well-formed .ensures) ∙ not-true _ (c .if1 .taken))
+returns c = reach-refused _ _ (c .before .before .examine .ensures) (λ z. c .if1 .taken (c .before .number .ensures ∙ z))
 
-needs-requires : tie.Need-needs-requires
-needs-requires c κs = search needs
+cast-least : tie.Need-cast-least
+cast-least c = search needs
 
-cast-reach-rows : tie.Need-cast-reach-rows
-cast-reach-rows c = search needs
+least-requires : tie.Need-least-requires
+least-requires c κs = search needs
+
+dependency-rows-requires : tie.Need-dependency-rows-requires
+dependency-rows-requires c κs = search needs
 
 reach-rows-requires : tie.Need-reach-rows-requires
-reach-rows-requires c κs = few _ (sym (c .before .before .before .before .before .well-formed .ensures) ∙ not-false _ (c .before .before .before .before .if1 .left))
+reach-rows-requires c κs = search needs
 
 returns-2 : tie.Need-returns-2
-returns-2 c = record-reached _ (sym (c .before .before .before .before .before .before .well-formed .ensures) ∙ not-false _ (c .before .before .before .before .before .if1 .left)) (c .before .before .before .before .needs .ensures) (c .reach-rows .ensures)
+returns-2 c =
+    reach-answered _ _ (c .before .before .before .before .before .before .before .before .before .before .before .examine .ensures) (sym (c .before .before .before .before .before .before .before .before .before .before .number .ensures) ∙ c .before .before .before .before .before .before .before .before .before .if1 .left) (c .before .before .before .before .before .before .before .before .least .ensures) (c .before .before .before .dependency-rows .ensures)
+    (c .reach-rows .ensures)
 
 pub reach-table-spec : {M : Type 1} → statement M
 reach-table-spec =
     tie.close
     (tie.spec
-    well-formed-requires
+    empty-requires
+    empty-requires-2
+    examine-requires
+    number-requires
     returns
-    needs-requires
-    cast-reach-rows
+    cast-least
+    least-requires
+    dependency-rows-requires
     reach-rows-requires
     returns-2)

@@ -1,0 +1,29 @@
+-- The counts that an examination gives are those of the record. Assumes nothing.
+use Prim.Native.Nat.{ℕ, _-_, min}
+use mathlib.Core.Path.{_≡_, ap, _∙_}
+use mathlib.Core.Bool.{true}
+use mathlib.Core.List.{List}
+use native.Mathlib.Omega.{arith}
+use lib.ListN.{length, getD, replicate, List·getD-append}
+use Rattle.cells.specs.Rows.{each}
+use Rattle.cells.proofs.Rows.{length-each}
+use Rattle.record.specs.declared.Record.{Record}
+use Rattle.record.specs.Record.{mostFeatures}
+use Rattle.record.specs.WellFormed.{wellFormed}
+use Rattle.record.proofs.Formed.{formed}
+use Rattle.permitted.specs.Asked.{dependencyCounts}
+use Rattle.enabled.specs.Tables.{dependenciesIn}
+use Rattle.enabled.specs.Parts.{CountsOf}
+use Rattle.enabled.proofs.RowLaws.{each-at}
+
+pub seen-counts : (r : Record) → wellFormed r ≡ true → {counts : List ℕ} → counts ≡ dependencyCounts r → CountsOf r counts
+unfolding dependencyCounts
+seen-counts r e q = record {
+  each = λ i h.
+      let few = formed r e .few in
+      let n = min (r .count) mostFeatures in
+      ap (λ (l : List ℕ). getD l i 0) q
+      ∙ List·getD-append (each n (dependenciesIn r)) (replicate (mostFeatures - length (each n (dependenciesIn r))) 0) 0 i
+      (omega (arith, length-each n (dependenciesIn r)))
+      ∙ each-at n (dependenciesIn r) i (omega arith);
+}
