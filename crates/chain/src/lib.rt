@@ -131,12 +131,13 @@ pub fn chain(r: Record, level: u32, g: Grants, position: u32, out: &mut [u8]) ->
     ensures { λ t. ⌜ chainOutcome t ≡ chainOf r level g position (length (now (out .entry))) ⌝ }
     ensures { λ t. ⌜ now (out .exit) ≡ afterChain r level g position (now (out .entry)) ⌝ }
 {
+    let n = cells::least(r.count as usize, MOST_FEATURES);
+    let slots = r.slots;
     let x = permitted::examine(r, level, g);
     let refusal = x.refusal;
     if refusal::number(refusal) != 0 {
         return refused(refusal);
     }
-    let n = cells::least(r.count as usize, MOST_FEATURES);
-    let rows = enabled::dependency_rows(&r.slots, &x.counts, n);
+    let rows = enabled::dependency_rows(&slots, &x.counts, n);
     chain_in(&rows.words, n, x.set, position as usize, out)
 }

@@ -1,5 +1,5 @@
 -- Laws of the rows of a table: their words, and a row replaced. Assumes nothing.
-use Prim.Native.Nat.{ℕ, zero, suc, _+_, _*_, _^_, _≤_, _<_}
+use Prim.Native.Nat.{ℕ, zero, suc, _+_, _*_, _≤_, _<_}
 use mathlib.Core.Path.{_≡_, refl, sym, ap, _∙_}
 use mathlib.Core.List.{List, [], _∷_, _++_}
 use native.Mathlib.Decide.{decLt}
@@ -8,12 +8,11 @@ use native.Mathlib.Numerals.{add-one}
 use native.Mathlib.Omega.{arith}
 use borrow.Author.Count.{below-more}
 use borrow.Author.Tests.{lt-ltb, le-ltb}
-use lib.ListN.{length, getD, set, take, length-set, List·getD-append, List·getD-eq-default}
+use lib.ListN.{length, getD, set, take, length-set, List·getD-append}
 use lib.Seq.{sets, length-sets, getD-append-seam, getD-set-same, getD-set-other, ext-getD, length-take-le, take-suc, take-all}
 use Rattle.cells.specs.Rows.{each}
 use Rattle.cells.proofs.Rows.{length-each}
 use Rattle.positions.specs.Sets.{setWords, setOf, noMembers}
-use Rattle.positions.proofs.SetLaws.{WordList}
 use Rattle.record.specs.Record.{mostFeatures}
 use Rattle.enabled.specs.Tables.{rowAt, rowOrNone}
 use Rattle.enabled.specs.Parts.{withRow}

@@ -311,17 +311,19 @@ fn counted(set: Set) -> Enabled
     }
 }
 
-// The enabled set, from record, level and grants alone.
+// The enabled set, from record, level and grants alone. The slots are kept, and the record goes on to be examined: what is used once more
+// after a call by value would be copied for it whole.
 pub fn enable(r: Record, level: u32, g: Grants) -> Enabled
     ensures { λ e. ⌜ enabledOutcome e ≡ enableOf r level g ⌝ }
 {
+    let n = cells::least(r.count as usize, MOST_FEATURES);
+    let slots = r.slots;
     let x = permitted::examine(r, level, g);
     let refusal = x.refusal;
     if refusal::number(refusal) != 0 {
         return nobody(refusal);
     }
-    let n = cells::least(r.count as usize, MOST_FEATURES);
-    counted(sweep(&r.slots, &x.counts, n, x.set))
+    counted(sweep(&slots, &x.counts, n, x.set))
 }
 
 // The reach table of a record, which is examined at user level without grants: only number 14 can refuse that.
@@ -334,6 +336,8 @@ pub fn reach_table(r: Record) -> ReachTable
         hfscr: 0,
         fscr: 0,
     };
+    let n = cells::least(r.count as usize, MOST_FEATURES);
+    let slots = r.slots;
     let x = permitted::examine(r, USER, none);
     let refusal = x.refusal;
     if refusal::number(refusal) != 0 {
@@ -344,8 +348,7 @@ pub fn reach_table(r: Record) -> ReachTable
             },
         };
     }
-    let n = cells::least(r.count as usize, MOST_FEATURES);
-    let table = dependency_rows(&r.slots, &x.counts, n);
+    let table = dependency_rows(&slots, &x.counts, n);
     ReachTable {
         refusal: Refusal::None,
         rows: reach_rows(&table.words, n),
@@ -356,10 +359,11 @@ pub fn reach_table(r: Record) -> ReachTable
 pub fn enable_by_table(r: Record, table: Rows, level: u32, g: Grants) -> Enabled
     ensures { λ e. ⌜ enabledOutcome e ≡ enableByTable r (table .words) level g ⌝ }
 {
+    let n = r.count as usize;
     let x = permitted::examine(r, level, g);
     let refusal = x.refusal;
     if refusal::number(refusal) != 0 {
         return nobody(refusal);
     }
-    counted(inside_rows(&table.words, r.count as usize, x.set))
+    counted(inside_rows(&table.words, n, x.set))
 }

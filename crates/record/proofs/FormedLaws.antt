@@ -89,11 +89,28 @@ module _ (r : Record) where
   unfolding wellFormed
   formed-many h = rw (lt-leb (r .count) mostFeatures h)
 
-  pub formed-not : (i : ℕ) {b : Bool} → i < r .count → i < mostFeatures → b ≡ fitsAt (featureAt r i) (r .slots) (r .count) i → b ≡ false → false ≡ wellFormed r
+  abbrev slotsOf : ℕ → Bool
+  slotsOf i = slotsFit (r .slots) (r .count) i (dependencyCount (featureAt r i))
+
+  pub fits-both : (i : ℕ) → bitsFit (featureAt r i) ≡ true → slotsOf i ≡ true → featureFits r i ≡ true
+  unfolding slotBelow slotsFit dependenciesFit
+  fits-both i b s = rw b s
+
+  formed-fail : (i : ℕ) → i < r .count → featureFits r i ≡ false → false ≡ wellFormed r
   unfolding wellFormed
-  formed-not i h l e q =
-      let not = sym (fits-feature i l) ∙ sym e ∙ q in
-      sym (ap (λ (b : Bool). leb (r .count) mostFeatures && b) (every-not (r .count) (featureFits r) i h not) ∙ and-false (leb (r .count) mostFeatures))
+  formed-fail i h e =
+      sym (ap (λ (b : Bool). leb (r .count) mostFeatures && b) (every-not (r .count) (featureFits r) i h e) ∙ and-false (leb (r .count) mostFeatures))
+
+  pub formed-bits : (i : ℕ) → i < r .count → bitsFit (featureAt r i) ≡ false → false ≡ wellFormed r
+  formed-bits i h e = formed-fail i h (rw e)
+
+  pub formed-slots : (i : ℕ) → i < r .count → slotsOf i ≡ false → false ≡ wellFormed r
+  unfolding slotBelow slotsFit dependenciesFit
+  formed-slots i h e = formed-fail i h (ap (λ (b : Bool). bitsFit (featureAt r i) && b) e ∙ and-false (bitsFit (featureAt r i)))
+
+  -- by the test of one feature
+  pub formed-not : (i : ℕ) {b : Bool} → i < r .count → i < mostFeatures → b ≡ fitsAt (featureAt r i) (r .slots) (r .count) i → b ≡ false → false ≡ wellFormed r
+  formed-not i h l e q = formed-fail i h (sym (fits-feature i l) ∙ sym e ∙ q)
 
   pub formed-next : (i : ℕ) {b : Bool} → every i (featureFits r) ≡ true → i < mostFeatures → b ≡ fitsAt (featureAt r i) (r .slots) (r .count) i → b ≡ true
       → every (i + 1) (featureFits r) ≡ true

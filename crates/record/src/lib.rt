@@ -184,8 +184,7 @@ fn each_below(slots: &[u16; SLOTS], count: u32, i: usize, n: usize) -> bool
     true
 }
 
-// Whether the feature at position `i` has at most sixteen dependencies, `n`, and each is below the count. Where they are many, the largest
-// slot is compared first: it is found without a test a slot.
+// Whether the feature at position `i` has at most sixteen dependencies, `n`, and each is below the count.
 fn dependencies_fit(slots: &[u16; SLOTS], count: u32, i: usize, n: usize) -> bool
     requires { ⌜ i < mostFeatures ⌝ }
     ensures { λ r. ⌜ r ≡ slotsFit (now (slots .entry)) count i n ⌝ }
@@ -193,13 +192,24 @@ fn dependencies_fit(slots: &[u16; SLOTS], count: u32, i: usize, n: usize) -> boo
     if MOST_DEPENDENCIES < n {
         return false;
     }
+    each_below(slots, count, i, n)
+}
+
+// The same. Where the dependencies are many, the largest slot is compared first: it is found without a test a slot.
+fn many_fit(slots: &[u16; SLOTS], count: u32, i: usize, n: usize) -> bool
+    requires { ⌜ i < mostFeatures ⌝ }
+    ensures { λ r. ⌜ r ≡ slotsFit (now (slots .entry)) count i n ⌝ }
+{
     if n <= FEW {
-        return each_below(slots, count, i, n);
+        return dependencies_fit(slots, count, i, n);
+    }
+    if n > MOST_DEPENDENCIES {
+        return false;
     }
     if largest_slot(slots, i) < count {
         return true;
     }
-    each_below(slots, count, i, n)
+    dependencies_fit(slots, count, i, n)
 }
 
 // Whether a feature fits at position `i` of a record with these slots and this count; none does past the last position.
@@ -212,11 +222,11 @@ pub fn feature_fits(f: Feature, slots: &[u16; SLOTS], count: u32, i: usize) -> b
     if !bits_fit(f) {
         return false;
     }
-    dependencies_fit(slots, count, i, dependency_count(f) as usize)
+    many_fit(slots, count, i, dependency_count(f) as usize)
 }
 
 // Whether a record is well formed: document 01's number 14 is for those that are not. A test for each feature below the count; `left` says
-// how many are to come.
+// how many are to come. It does without `feature_fits`, which the compiler puts into the one loop that calls it.
 pub fn well_formed(r: Record) -> bool
     ensures { λ x. ⌜ x ≡ wellFormed r ⌝ }
 {
@@ -227,7 +237,11 @@ pub fn well_formed(r: Record) -> bool
     }
     let mut i: usize = 0;
     while 0 < left {
-        if !feature_fits(r.features[i], &r.slots, count, i) {
+        let f = r.features[i];
+        if !bits_fit(f) {
+            return false;
+        }
+        if !dependencies_fit(&r.slots, count, i, dependency_count(f) as usize) {
             return false;
         }
         i += 1;

@@ -1,6 +1,6 @@
 -- `record::dependencies_fit` meets its contract. Assumes nothing.
 use native.Mathlib.Omega.{arith}
-use Rattle.record.proofs.FormedLaws.{slots-many, slots-each, slots-largest}
+use Rattle.record.proofs.FormedLaws.{slots-many, slots-each}
 use borrow.Author.Needs.{needs}
 use Rattle.record.proofs.dependencies_fit.Statement.{statement}
 use Rattle.record.proofs.dependencies_fit.Tie as tie
@@ -14,26 +14,5 @@ each-below-requires c κs = search needs
 returns-2 : tie.Need-returns-2
 returns-2 c = slots-each _ _ _ _ (omega arith) (c .each-below .ensures)
 
-largest-slot-requires : tie.Need-largest-slot-requires
-largest-slot-requires c κs = search needs
-
-returns-3 : tie.Need-returns-3
-returns-3 c = slots-largest _ _ _ _ (omega arith) (c .before .largest-slot .ensures) (c .if3 .taken)
-
-each-below-requires-2 : tie.Need-each-below-requires-2
-each-below-requires-2 c κs = search needs
-
-returns-4 : tie.Need-returns-4
-returns-4 c = slots-each _ _ _ _ (omega arith) (c .each-below2 .ensures)
-
 pub dependencies-fit-spec : {M : Type 1} → statement M
-dependencies-fit-spec =
-    tie.close
-    (tie.spec
-    returns
-    each-below-requires
-    returns-2
-    largest-slot-requires
-    returns-3
-    each-below-requires-2
-    returns-4)
+dependencies-fit-spec = tie.close (tie.spec returns each-below-requires returns-2)

@@ -19,15 +19,15 @@ returns-2 c = fits-not _ _ _ _ (omega arith) (sym (c .before .bits-fit .ensures)
 dependency-count-requires : tie.Need-dependency-count-requires
 dependency-count-requires c κs = search needs
 
-cast-dependencies-fit : tie.Need-cast-dependencies-fit
-cast-dependencies-fit c = search needs
+cast-many-fit : tie.Need-cast-many-fit
+cast-many-fit c = search needs
 
-dependencies-fit-requires : tie.Need-dependencies-fit-requires
-dependencies-fit-requires c κs = search needs
+many-fit-requires : tie.Need-many-fit-requires
+many-fit-requires c κs = search needs
 
 returns-3 : tie.Need-returns-3
 returns-3 c =
-    fits-slots _ _ _ _ (omega arith) (sym (c .before .before .before .bits-fit .ensures) ∙ not-false _ (c .before .before .if2 .left)) (c .dependencies-fit .ensures)
+    fits-slots _ _ _ _ (omega arith) (sym (c .before .before .before .bits-fit .ensures) ∙ not-false _ (c .before .before .if2 .left)) (c .many-fit .ensures)
     (c .before .dependency-count .ensures)
 
 pub feature-fits-spec : {M : Type 1} → statement M
@@ -38,6 +38,6 @@ feature-fits-spec =
     bits-fit-requires
     returns-2
     dependency-count-requires
-    cast-dependencies-fit
-    dependencies-fit-requires
+    cast-many-fit
+    many-fit-requires
     returns-3)

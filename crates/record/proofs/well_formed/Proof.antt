@@ -1,14 +1,16 @@
 -- `record::well_formed` meets its contract. The loop's invariant: the features passed fit. Assumes nothing.
 use Prim.Native.Nat.{_+_, _≤_}
-use mathlib.Core.Path.{_≡_, refl}
+use mathlib.Core.Path.{_≡_, refl, sym, ap, _∙_}
 use mathlib.Core.Bool.{true}
 use native.Mathlib.Omega.{arith}
 use borrow.Author.Needs.{needs}
 use borrow.Author.Tests.{not-true, not-false}
 use Rattle.positions.specs.Below.{every}
+use Rattle.positions.proofs.BelowLaws.{every-more}
 use Rattle.record.specs.Record.{mostFeatures}
 use Rattle.record.specs.WellFormed.{featureFits}
-use Rattle.record.proofs.FormedLaws.{formed-many, formed-not, formed-next, formed-all}
+use Rattle.record.specs.Slots.{slotsFit}
+use Rattle.record.proofs.FormedLaws.{fits-both, formed-many, formed-bits, formed-slots, formed-all}
 use Rattle.record.proofs.well_formed.Statement.{statement}
 use Rattle.record.proofs.well_formed.Tie as tie
 
@@ -28,17 +30,31 @@ loop-holds : tie.Need-loop-holds Inv-loop μ-loop
 unfolding every
 loop-holds c = (omega arith, omega arith, refl)
 
-mul-feature-fits : tie.Need-mul-feature-fits Inv-loop μ-loop
-mul-feature-fits c = search needs
+mul-f : tie.Need-mul-f Inv-loop μ-loop
+mul-f c = search needs
 
-element-copy-out-feature-fits : tie.Need-element-copy-out-feature-fits Inv-loop μ-loop
-element-copy-out-feature-fits c = search needs
+element-copy-out-f : tie.Need-element-copy-out-f Inv-loop μ-loop
+element-copy-out-f c = search needs
 
-feature-fits-requires : tie.Need-feature-fits-requires Inv-loop μ-loop
-feature-fits-requires c κs = search needs
+bits-fit-requires : tie.Need-bits-fit-requires Inv-loop μ-loop
+bits-fit-requires c κs = search needs
 
 returns-2 : tie.Need-returns-2 Inv-loop μ-loop
-returns-2 c = formed-not _ (c .before .before .before .before .before .before .loop .i) (omega arith) (omega arith) (c .before .feature-fits .ensures) (not-true _ (c .if2 .taken))
+returns-2 c = formed-bits _ (c .before .before .before .before .loop .i) (omega arith) (sym (c .before .bits-fit .ensures) ∙ not-true _ (c .if2 .taken))
+
+dependency-count-requires : tie.Need-dependency-count-requires Inv-loop μ-loop
+dependency-count-requires c κs = search needs
+
+cast-dependencies-fit : tie.Need-cast-dependencies-fit Inv-loop μ-loop
+cast-dependencies-fit c = search needs
+
+dependencies-fit-requires : tie.Need-dependencies-fit-requires Inv-loop μ-loop
+dependencies-fit-requires c κs = search needs
+
+returns-3 : tie.Need-returns-3 Inv-loop μ-loop
+returns-3 c =
+    let fits = c .before .dependencies-fit .ensures ∙ ap (slotsFit _ _ _) (c .before .before .dependency-count .ensures) in
+    formed-slots _ (c .before .before .before .before .before .before .before .before .before .loop .i) (omega arith) (sym fits ∙ not-true _ (c .if3 .taken))
 
 add-i : tie.Need-add-i Inv-loop μ-loop
 add-i c = search needs
@@ -51,10 +67,13 @@ loop-less c = omega arith
 
 loop-again : tie.Need-loop-again Inv-loop μ-loop
 loop-again c =
-    (omega arith, omega arith, formed-next (c .before .before .before .before .before .before .before .before .args .t1) _ (c .before .before .before .before .before .before .loop .inv .2) (omega arith) (c .before .feature-fits .ensures) (not-false _ (c .if2 .left)))
+    let l = c .before .before .before .before .before .before .before .before .before in
+    let fits = c .before .dependencies-fit .ensures ∙ ap (slotsFit _ _ _) (c .before .before .dependency-count .ensures) in
+    let bits = sym (c .before .before .before .before .before .before .bits-fit .ensures) ∙ not-false _ (c .before .before .before .before .before .if2 .left) in
+    (omega arith, omega arith, every-more _ _ (l .loop .inv .2) (fits-both (l .before .before .args .t1) _ bits (sym fits ∙ not-false _ (c .if3 .left))))
 
-returns-3 : tie.Need-returns-3 Inv-loop μ-loop
-returns-3 c = formed-all _ (omega arith) (omega arith) (c .before .loop .inv .2)
+returns-4 : tie.Need-returns-4 Inv-loop μ-loop
+returns-4 c = formed-all _ (omega arith) (omega arith) (c .before .loop .inv .2)
 
 pub well-formed-spec : {M : Type 1} → statement M
 well-formed-spec =
@@ -65,12 +84,16 @@ well-formed-spec =
     cast-left
     returns
     loop-holds
-    mul-feature-fits
-    element-copy-out-feature-fits
-    feature-fits-requires
+    mul-f
+    element-copy-out-f
+    bits-fit-requires
     returns-2
+    dependency-count-requires
+    cast-dependencies-fit
+    dependencies-fit-requires
+    returns-3
     add-i
     sub-left
     loop-less
     loop-again
-    returns-3)
+    returns-4)
