@@ -1,4 +1,8 @@
 pub mod Marked
+pub mod EndLaws
+pub mod TableNumbers
+pub mod LookupEnds
+pub mod Demand1
 pub mod Demand3
 pub mod GraphLaws
 pub mod IsaLaws

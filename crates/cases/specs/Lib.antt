@@ -1,3 +1,5 @@
 pub mod Cases
+pub mod Ends
+pub mod Demand1
 pub mod Demand3
 pub mod Ignored

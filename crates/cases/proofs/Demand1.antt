@@ -1,0 +1,138 @@
+-- Demand 1, for all bytes and numbers. Assumes nothing.
+use Prim.Native.Nat.{ℕ, _≤_}
+use mathlib.Core.Path.{refl, sym, subst}
+use mathlib.Core.List.{List, [], _∷_}
+use native.Mathlib.Omega.{arith}
+use lib.ListN.{length}
+use Rattle.refusal.specs.Refusal.{Placed}
+use Rattle.refusal.specs.Checks.{check, firstFault}
+use Rattle.cells.specs.Buffer.{written}
+use Rattle.unit.specs.Hex.{hexNumber, hexChecks, readHex, hexText, digitCount, fits, writeHex, afterHex}
+use Rattle.unit.specs.Unit.{readUnit, writeUnit, afterUnit}
+use Rattle.sizes.specs.Sizes.{sizeChecks, noSizes, sizeTable, sizes}
+use Rattle.segments.specs.Segments.{segmentChecks, tableOf, segmentPages}
+use Rattle.attributes.specs.Attributes.{attributeChecks, noAttributes, paFeatures, piTable, piFeatures, busFrequency}
+use Rattle.header.specs.Header.{noBlocks, header}
+use Rattle.walk.specs.Checked.{noLayout}
+use Rattle.walk.specs.declared.Layout.{Layout}
+use Rattle.walk.specs.Faults.{CheckEnds, answered, headerRefused, walkRefused}
+use Rattle.walk.proofs.CheckEnds.{check-ends, check-place}
+use Rattle.positions.specs.Sets.{setOf, collect, noMembers}
+use Rattle.record.specs.declared.Record.{Record}
+use Rattle.record.specs.Record.{noFeatures}
+use Rattle.reading.specs.Ends.{ReadEnds, accepted, walkRefused as treeRefused, checkRefused}
+use Rattle.reading.proofs.Faults.{read-ends}
+use Rattle.reading.proofs.Formed.{read-formed}
+use Rattle.reading.proofs.Dependencies.{read-dependencies, unfound-refused}
+use Rattle.permitted.specs.declared.Grants.{Grants}
+use Rattle.permitted.specs.Permitted.{permittedSet}
+use Rattle.permitted.specs.Asked.{askedChecks, dependencyCounts, examined, permitted}
+use Rattle.enabled.specs.Answers.{membersOf, enabledSet, enable, reachTable, reachOf, enabledByTable, enableByTable}
+use Rattle.chain.specs.Chain.{chainIn, chainChecks, chain, afterChain}
+use Rattle.words.specs.Words.{noWords, words}
+use Rattle.capi.specs.Answers.{formNumber}
+use Rattle.cases.specs.Ends.{Ends, PlacedEnds, answeredAt, refusedAt, Keeps}
+use Rattle.cases.specs.Demand1.{zeroSet, zeroSeen, zeroMembers, zeroSegments, zeroBytes, Demand1Tree, Demand1Resolver, Demand1Value, Demand1Unit, Demand1}
+use Rattle.cases.proofs.EndLaws.{checks-end, checks-keep, fault-one-of}
+use Rattle.cases.proofs.TableNumbers.{sizeNumbers, sizes-numbered, segmentNumbers, segments-numbered, attributeNumbers, attributes-numbered}
+use Rattle.cases.proofs.LookupEnds.{of-lookup}
+
+-- a tree: by how its check and its reading end
+header-ends : {tree : List ℕ} {r : Placed Layout} → CheckEnds tree r → PlacedEnds tree 5 noBlocks (header tree)
+header-ends {tree} (answered h w) = subst (PlacedEnds tree 5 noBlocks) (sym h) (answeredAt _)
+header-ends {tree} (headerRefused {number} {place} h l m p) = subst (PlacedEnds tree 5 noBlocks) (sym h) (refusedAt number place l m p)
+header-ends {tree} (walkRefused h f) = subst (PlacedEnds tree 5 noBlocks) (sym h) (answeredAt _)
+
+tree-ends : {tree : List ℕ} {r : Placed Layout} → CheckEnds tree r → r .place ≤ length tree → PlacedEnds tree 9 noLayout r
+tree-ends (answered h w) q = answeredAt _
+tree-ends (headerRefused {number} {place} h l m p) q = refusedAt number place l (omega arith) p
+tree-ends (walkRefused {number} {place} h f) q = refusedAt number place (omega arith) (f .most) q
+
+record-ends : {tree : List ℕ} {r : Placed Record} → ReadEnds tree r → PlacedEnds tree 13 noFeatures r
+record-ends (accepted a) = answeredAt _
+record-ends (treeRefused {number} {place} e l m p) = refusedAt number place l (omega arith) p
+record-ends (checkRefused {number} {place} w f l m p) = refusedAt number place (omega arith) m p
+
+of-tree : (tree : List ℕ) → Demand1Tree tree
+of-tree tree = record {
+  headerEnds = header-ends (check-ends tree);
+  checkEnds = tree-ends (check-ends tree) (check-place tree);
+  readEnds = record-ends (read-ends tree);
+  formed = read-formed tree;
+  refusal = λ i j u. unfound-refused tree i j (u .feature) (u .dependency) (u .byNone);
+  position = read-dependencies tree;
+}
+
+-- a record, a level and grants
+module _ (r : Record) (level : ℕ) (g : Grants) where
+  examine-ends : Ends (14 ∷ 15 ∷ []) zeroSeen (examined r level g)
+  unfolding examined askedChecks setOf collect noMembers
+  examine-ends = checks-end _ zeroSeen (record { set = permittedSet r level g; counts = dependencyCounts r }) (askedChecks r level) refl
+
+  permitted-ends : Ends (14 ∷ 15 ∷ []) zeroSet (permitted r level g)
+  unfolding permitted askedChecks setOf collect noMembers
+  permitted-ends = checks-end _ zeroSet (permittedSet r level g) (askedChecks r level) refl
+
+  enable-ends : Ends (14 ∷ 15 ∷ []) zeroMembers (enable r level g)
+  unfolding enable askedChecks setOf collect noMembers
+  enable-ends = checks-end _ zeroMembers (membersOf (enabledSet r (permittedSet r level g))) (askedChecks r level) refl
+
+  by-table-ends : (table : List ℕ) → Ends (14 ∷ 15 ∷ []) zeroMembers (enableByTable r table level g)
+  unfolding enableByTable askedChecks setOf collect noMembers
+  by-table-ends table =
+      checks-end _ zeroMembers (membersOf (enabledByTable r table (permittedSet r level g))) (askedChecks r level) refl
+
+  of-resolver : Demand1Resolver r level g
+  unfolding formNumber askedChecks reachOf words chain chainChecks afterChain
+  of-resolver = record {
+    formEnds = fault-one-of (14 ∷ []) _ refl;
+    examineEnds = examine-ends;
+    permittedEnds = permitted-ends;
+    enableEnds = enable-ends;
+    reachEnds = checks-end _ _ (reachTable r) _ refl;
+    byTableEnds = by-table-ends;
+    wordsEnds = checks-end _ noWords _ (askedChecks r level) refl;
+    chainEnds = λ i buffer. checks-end _ 0 _ (chainChecks r level g i (length buffer)) refl;
+    chainKeeps = λ i buffer.
+        let told = chainIn r (permittedSet r level g) i in
+        checks-keep 0 (length told) buffer (written buffer 0 told) (chainChecks r level g i (length buffer));
+  }
+
+-- the value of a CPU node's property
+of-value : (value : List ℕ) → Demand1Value value
+unfolding sizes segmentPages tableOf paFeatures piFeatures piTable busFrequency
+of-value value = record {
+  sizesEnds = checks-end sizeNumbers noSizes (sizeTable value) (sizeChecks value) (sizes-numbered value);
+  segmentsEnds = checks-end segmentNumbers zeroSegments _ (segmentChecks value) (segments-numbered value);
+  paEnds = checks-end attributeNumbers noAttributes _ (attributeChecks value) (attributes-numbered value);
+  piEnds = checks-end attributeNumbers zeroBytes _ (attributeChecks value) (attributes-numbered value);
+  busEnds = checks-end _ 0 _ _ refl;
+}
+
+-- a text, and a number that is written into a buffer
+module _ (text : List ℕ) (n : ℕ) (buffer : List ℕ) where
+  hex-ends : (largest : ℕ) → Ends (12 ∷ 20 ∷ []) 0 (readHex largest text)
+  unfolding readHex hexChecks
+  hex-ends largest = checks-end _ 0 (hexNumber text) (hexChecks largest text) refl
+
+  write-ends : (at : ℕ) → Ends (18 ∷ []) 0 (writeHex n at (length buffer))
+  unfolding writeHex
+  write-ends at = checks-end _ 0 (digitCount n) _ refl
+
+  write-keeps : (at : ℕ) → Keeps (writeHex n at (length buffer)) buffer (afterHex n at buffer)
+  unfolding writeHex afterHex firstFault
+  write-keeps at = checks-keep 0 (digitCount n) buffer (written buffer at (hexText n)) (check (fits n at (length buffer)) 18 ∷ [])
+
+  of-unit : Demand1Unit text n buffer
+  unfolding readUnit writeUnit afterUnit
+  of-unit = record {
+    unitEnds = hex-ends _;
+    writeEnds = write-ends 0;
+    writeKeeps = write-keeps 0;
+    hexEnds = hex-ends;
+    hexWriteEnds = write-ends;
+    hexWriteKeeps = write-keeps;
+  }
+
+pub demand-1 : Demand1
+demand-1 = record { trees = of-tree; records = of-resolver; lookups = of-lookup; values = of-value; texts = of-unit }
