@@ -1,0 +1,9 @@
+pub mod PutLaws
+pub mod DigitLaws
+pub mod TokenLaws
+pub mod NameLaws
+pub mod JoinLaws
+pub mod StateLaws
+pub mod LineLaws
+pub mod Longest
+pub mod Answers
