@@ -1,0 +1,97 @@
+"""Property blocks, values of tables and unit texts by chance, for the differential test."""
+
+from vectors.blocks import NOP, prop
+from vectors.properties import HEX_DIGITS, attributes_random, cells, mutated, segments_random, sizes_random
+
+ALL_ONES = 2**32 - 1
+
+
+def sizes(kind, chance, many):
+    """As the stored vectors have them; sixteen and more cells; any bytes."""
+    for place, (_, value, _) in enumerate(sizes_random(kind, chance, many)):
+        if place % 8 == 6:
+            value = cells(*range(chance.between(14, 19))) + chance.bytes(chance.choice((0, 0, 1)))
+        if place % 8 == 7:
+            value = chance.bytes(chance.below(20))
+        yield value
+
+
+def segments(chance, many):
+    """As the stored vectors have them; small cells; any bytes."""
+    for place, (_, value, _) in enumerate(segments_random(chance, many)):
+        if place % 8 == 6:
+            value = cells(*[chance.choice((0, 1, 1, 2, 8, 9, 12, 63, 64)) for _ in range(chance.below(40))])
+        if place % 8 == 7:
+            value = chance.bytes(chance.below(40))
+        yield value
+
+
+def attributes(kind, chance, many):
+    """As the stored vectors have them; few short descriptors; any bytes."""
+    for place, (_, value, _) in enumerate(attributes_random(kind, chance, many)):
+        if place % 8 == 5:
+            value = b"".join(bytes([1, chance.below(3), chance.below(256)]) for _ in range(chance.between(1, 5)))
+        if place % 8 == 6:
+            value = bytes([254, 0]) + chance.bytes(254) + bytes(chance.below(2))
+        if place % 8 == 7:
+            value = chance.bytes(chance.below(30))
+        yield value
+
+
+def frequencies(chance, many):
+    for place in range(many):
+        yield chance.bytes(8 if place % 2 else chance.below(17))
+
+
+def texts(chance, many):
+    """Unit texts of all lengths, of either case, with leading zeros, with a wrong character, and any bytes."""
+    for place in range(many):
+        length = chance.between(0, 18)
+        text = bytes(chance.choice(HEX_DIGITS) for _ in range(length))
+        if place % 4 == 1:
+            text = format(chance.below(2 ** chance.between(1, 34)), chance.choice("xX")).encode("ascii")
+            text = text.rjust(length, b"0")
+        if place % 4 == 2:
+            text = mutated(chance, text)
+        if place % 16 == 3:
+            text = chance.bytes(length)
+        yield text
+
+
+def units(chance, many):
+    """(unit, buffer): numbers of all lengths, and buffers of none to twelve bytes."""
+    for _ in range(many):
+        some = chance.below(2 ** chance.between(1, 32))
+        unit = chance.choice((chance.below(2**32), some, 16 ** chance.below(8), 16 ** chance.below(8) - 1, ALL_ONES))
+        length = len("%x" % unit)
+        yield unit, chance.bytes(chance.choice((chance.below(13), length, length - 1)))
+
+
+def block(chance, offsets):
+    """Properties whose names are at these offsets; at times another token among them, or bytes missing at the end."""
+    parts = [prop(offset, chance.bytes(chance.below(9)), fill=chance.bytes(1)) for offset in offsets]
+    for _ in range(chance.below(3)):
+        parts.insert(chance.below(len(parts) + 1), NOP)
+    if chance.below(16) == 0:
+        parts.insert(chance.below(len(parts) + 1), cells(chance.choice((0, 1, 2, 3, 9, ALL_ONES))))
+    data = b"".join(parts)
+    return data[: -chance.between(1, 3)] if chance.below(16) == 0 else data
+
+
+def lookups(chance, many):
+    """(CPU block, parent's block, strings, name); the name is mostly that of a property, or the ending of one."""
+    for place in range(many):
+        names = [bytes(chance.choice(b"abcdefgh#?-09") for _ in range(chance.between(1, 6))) for _ in range(8)]
+        if place % 4 == 0:
+            names[chance.below(8)] = chance.choice((b"p" * 31, b"p" * 31, b"p" * 32, b"p@", b"\xff", b""))
+        strings = b"\0".join(names) + (b"\0" if chance.below(8) else b"")
+        firsts = [0, *[at + 1 for at, byte in enumerate(strings[:-1]) if byte == 0]]
+        if place % 8 == 1:
+            firsts += [chance.below(len(strings) + 2) for _ in range(2)]
+        blocks = [block(chance, chance.shuffled(firsts)[: chance.below(6)]) for _ in range(2)]
+        if place % 8 == 2:
+            blocks[chance.below(2)] = mutated(chance, chance.choice(blocks))
+        if place % 32 == 3:
+            blocks[chance.below(2)] = chance.bytes(chance.below(40))
+        name = chance.choice(names)[chance.choice((0, 0, 0, 1)) :]
+        yield (*blocks, strings, chance.bytes(chance.below(40)) if place % 32 == 5 else name)
