@@ -31,8 +31,9 @@ use Rattle.enabled.specs.Answers.{membersOf, enabledSet, enable, reachTable, re
 use Rattle.chain.specs.Chain.{chainIn, chainChecks, chain, afterChain}
 use Rattle.words.specs.Words.{noWords, words}
 use Rattle.capi.specs.Answers.{formNumber}
+use Rattle.listing.specs.Listing.{lineAt, lineChecks, writeLine, afterLine}
 use Rattle.cases.specs.Ends.{Ends, PlacedEnds, answeredAt, refusedAt, Keeps}
-use Rattle.cases.specs.Demand1.{zeroSet, zeroSeen, zeroMembers, zeroSegments, zeroBytes, Demand1Tree, Demand1Resolver, Demand1Value, Demand1Unit, Demand1}
+use Rattle.cases.specs.Demand1.{zeroSet, zeroSeen, zeroMembers, zeroSegments, zeroBytes, Demand1Tree, Demand1Resolver, Demand1Value, Demand1Unit, Demand1Line, Demand1}
 use Rattle.cases.proofs.EndLaws.{checks-end, checks-keep, fault-one-of}
 use Rattle.cases.proofs.TableNumbers.{sizeNumbers, sizes-numbered, segmentNumbers, segments-numbered, attributeNumbers, attributes-numbered}
 use Rattle.cases.proofs.LookupEnds.{of-lookup}
@@ -134,5 +135,13 @@ module _ (text : List ℕ) (n : ℕ) (buffer : List ℕ) where
     hexWriteKeeps = write-keeps;
   }
 
+-- a line of the list
+of-line : (tree : List ℕ) (k : ℕ) (buffer : List ℕ) → Demand1Line tree k buffer
+unfolding writeLine afterLine lineChecks
+of-line tree k buffer = record {
+  lineEnds = checks-end _ 0 (length (lineAt tree k)) (lineChecks tree k (length buffer)) refl;
+  lineKeeps = checks-keep 0 (length (lineAt tree k)) buffer (written buffer 0 (lineAt tree k)) (lineChecks tree k (length buffer));
+}
+
 pub demand-1 : Demand1
-demand-1 = record { trees = of-tree; records = of-resolver; lookups = of-lookup; values = of-value; texts = of-unit }
+demand-1 = record { trees = of-tree; records = of-resolver; lookups = of-lookup; values = of-value; texts = of-unit; lines = of-line }

@@ -34,6 +34,7 @@ use Rattle.enabled.specs.Answers.{Members, enable, reachOf, enableByTable}
 use Rattle.chain.specs.Chain.{chain, afterChain}
 use Rattle.words.specs.Words.{noWords, words}
 use Rattle.capi.specs.Answers.{formNumber}
+use Rattle.listing.specs.Listing.{writeLine, afterLine}
 use Rattle.cases.specs.Ends.{isOneOf, Ends, PlacedEnds, Keeps}
 
 -- the zeros of a set, of an examination, of a set with its count, of segment page sizes, of attribute bytes
@@ -125,6 +126,11 @@ pub record Demand1Unit (text : List ℕ) (n : ℕ) (buffer : List ℕ) : Type 0 
   pub hexWriteEnds : (at : ℕ) → Ends (18 ∷ []) 0 (writeHex n at (length buffer))
   pub hexWriteKeeps : (at : ℕ) → Keeps (writeHex n at (length buffer)) buffer (afterHex n at buffer)
 
+-- `write_line`: 16 for a line past the last, then 18
+pub record Demand1Line (tree : List ℕ) (k : ℕ) (buffer : List ℕ) : Type 0 where
+  pub lineEnds : Ends (16 ∷ 18 ∷ []) 0 (writeLine tree k (length buffer))
+  pub lineKeeps : Keeps (writeLine tree k (length buffer)) buffer (afterLine tree k buffer)
+
 -- all of it, for "bytes and numbers of all kinds, from anyone"
 pub record Demand1 : Type 0 where
   pub trees : (tree : List ℕ) → Demand1Tree tree
@@ -132,3 +138,4 @@ pub record Demand1 : Type 0 where
   pub lookups : (cpu parent strings name : List ℕ) → Demand1Lookup cpu parent strings name
   pub values : (value : List ℕ) → Demand1Value value
   pub texts : (text : List ℕ) (n : ℕ) (buffer : List ℕ) → Demand1Unit text n buffer
+  pub lines : (tree : List ℕ) (k : ℕ) (buffer : List ℕ) → Demand1Line tree k buffer
