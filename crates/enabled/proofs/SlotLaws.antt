@@ -57,6 +57,9 @@ module _ (slots : List ℕ) (i : ℕ) where
         let w = some-is 0 (λ j. eqb (slot j) t) (sym (has-slots 0 t h) ∙ e) in
         absurd (omega (arith, w .1)))
 
+    pub slots-inside-zero : {m : ℕ} → m ≡ 0 → isSubset (slotSet slots i m) s ≡ true
+    slots-inside-zero e = ap (λ (k : ℕ). isSubset (slotSet slots i k) s) e ∙ slots-inside-none
+
     pub slots-inside-more : (j : ℕ) → isSubset (slotSet slots i j) s ≡ true → has s (getD slots (mostDependencies * i + j) 0) ≡ true
         → isSubset (slotSet slots i (j + 1)) s ≡ true
     slots-inside-more j e q = subset-of (slotSet slots i (j + 1)) s (λ t h m.

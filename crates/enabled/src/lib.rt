@@ -151,6 +151,9 @@ fn kept(slots: &[u16; SLOTS], i: usize, m: usize, s: Set) -> Set
     requires { ⌜ (i < mostFeatures) × (m ≤ mostDependencies) × SlotsBelow (now slots) i m room ⌝ }
     ensures { λ r. ⌜ r .words ≡ keptIn (s .words) (slotSet (now (slots .entry)) i m) i ⌝ }
 {
+    if m == 0 {
+        return s;
+    }
     if !positions::member(s, i) {
         return s;
     }

@@ -17,7 +17,7 @@ use Rattle.record.specs.Record.{featureAt}
 use Rattle.record.specs.Cells.{cell, lowBit}
 use Rattle.words.specs.declared.Bits.{Bits}
 use Rattle.words.specs.Words.{WordValues, capabilityWord, registerWord, wordsOf, wordOf, isNumber, capabilityBit, supportBit}
-use Rattle.words.specs.Parts.{belowLevel, bitWhere, FeatureBits, BitsOf}
+use Rattle.words.specs.Parts.{belowLevel, bitWhere, FeatureBits, BitsOf, levelled}
 use Rattle.words.proofs.WordLaws.{word-and, word-below, word-none, word-or}
 
 -- the tests of one feature
@@ -71,14 +71,17 @@ bits-all r enabled e w = record {
 }
 
 -- the words at a level
-pub values-are : (r : Record) (level : ℕ) (g : Grants) (enabled : List ℕ) {x : Bits} → BitsOf r enabled x
-    → {hwcap hfscr fscr : ℕ} → hwcap ≡ belowLevel system level (x .hwcap) → hfscr ≡ belowLevel hypervisor level (bitAnd (x .hfscr) (g .hfscr))
-    → fscr ≡ belowLevel system level (bitAnd (x .fscr) (g .fscr))
-    → _≡_ {A = WordValues} (record { first = hwcap % 2 ^ 32; second = hwcap / 2 ^ 32; hfscr = hfscr; fscr = fscr }) (wordsOf r level g enabled)
-unfolding wordsOf capabilityWord registerWord
-values-are r level g enabled b e h f =
-    let capability = word-below (capabilityBit r enabled) system level (b .hwcap) e in
-    rw (capability, register HvSupport HfscrBitNr hypervisor (g .hfscr) (b .hfscr) h, register OsSupport FscrBitNr system (g .fscr) (b .fscr) f)
+pub levelled-are : (x : Bits) (level : ℕ) (g : Grants) {hwcap hfscr fscr : ℕ} → hwcap ≡ belowLevel system level (x .hwcap)
+    → hfscr ≡ belowLevel hypervisor level (bitAnd (x .hfscr) (g .hfscr)) → fscr ≡ belowLevel system level (bitAnd (x .fscr) (g .fscr))
+    → _≡_ {A = WordValues} (record { first = hwcap % 2 ^ 32; second = hwcap / 2 ^ 32; hfscr = hfscr; fscr = fscr }) (levelled x level g)
+unfolding levelled
+levelled-are x level g e h f = rw (e, h, f)
+
+pub values-are : (r : Record) (level : ℕ) (g : Grants) (enabled : List ℕ) {x : Bits} → BitsOf r enabled x → levelled x level g ≡ wordsOf r level g enabled
+unfolding levelled wordsOf capabilityWord registerWord
+values-are r level g enabled b =
+    let capability = word-below (capabilityBit r enabled) system level (b .hwcap) refl in
+    rw (capability, register HvSupport HfscrBitNr hypervisor (g .hfscr) (b .hfscr) refl, register OsSupport FscrBitNr system (g .fscr) (b .fscr) refl)
   where
     register : (support number : Property) (upper granted : ℕ) {w v : ℕ} → w ≡ wordOf (supportBit r enabled support number)
         → v ≡ belowLevel upper level (bitAnd w granted) → v ≡ registerWord r level enabled upper support number granted

@@ -1,7 +1,8 @@
 -- What the parts of the code answer. The promises of the public functions rest on `Words`, not on this file.
-use Prim.Native.Nat.{ℕ}
+use Prim.Native.Nat.{ℕ, _/_, _%_, _^_}
 use mathlib.Core.Path.{_≡_}
 use mathlib.Core.Bool.{Bool, _&&_, cond}
+use lib.Bits.{bitAnd}
 use lib.Dec.{ltb}
 use mathlib.Core.List.{List}
 use Rattle.record.specs.declared.Record.{Record}
@@ -9,6 +10,8 @@ use Rattle.record.specs.declared.Cell.{Cell}
 use Rattle.record.specs.declared.Feature.{Feature}
 use Rattle.record.specs.Cells.{cell, lowBit}
 use Rattle.record.specs.declared.Property.the-variants.{HvSupport, OsSupport, HfscrBitNr, FscrBitNr, HwcapBitNr}
+use Rattle.permitted.specs.declared.Grants.{Grants}
+use Rattle.permitted.specs.Permitted.{system, hypervisor}
 use Rattle.words.specs.declared.Bits.{Bits}
 use Rattle.words.specs.declared.Values.{Values}
 use Rattle.words.specs.Words.{WordValues, wordOf, isNumber, capabilityBit, supportBit}
@@ -33,6 +36,15 @@ pub record BitsOf (r : Record) (enabled : List ℕ) (x : Bits) : Type 0 where
 unfoldable pub belowLevel : ℕ → ℕ → ℕ → ℕ
 belowLevel upper level word = cond (ltb level upper) word 0
 
--- the words of an enabled set
+-- the words of the bits of the enabled features, at a level under grants
+unfoldable pub levelled : Bits → ℕ → Grants → WordValues
+levelled x level g = record {
+  first = belowLevel system level (x .hwcap) % 2 ^ 32;
+  second = belowLevel system level (x .hwcap) / 2 ^ 32;
+  hfscr = belowLevel hypervisor level (bitAnd (x .hfscr) (g .hfscr));
+  fscr = belowLevel system level (bitAnd (x .fscr) (g .fscr));
+}
+
+-- the words that the code has at hand
 abbrev pub valuesOf : Values → WordValues
 valuesOf x = record { first = x .first; second = x .second; hfscr = x .hfscr; fscr = x .fscr }

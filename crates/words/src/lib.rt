@@ -2,7 +2,6 @@
 use permitted::Grants;
 use permitted::HYPERVISOR;
 use permitted::SYSTEM;
-use positions::Set;
 use record::Cell;
 use record::Feature;
 use record::HIGHEST_BIT;
@@ -11,10 +10,9 @@ use record::Record;
 use refusal::Refusal;
 ghost use mathlib.Core.Path.{_≡_};
 ghost use mathlib.Core.Bool.{_&&_};
-ghost use Prim.Native.Nat.{_≤_};
-ghost use Rattle.record.specs.Record.{mostFeatures};
-ghost use Rattle.words.specs.Words.{wordsOf, words as wordsAnswer, wordsOutcome};
-ghost use Rattle.words.specs.Parts.{bitWhere, FeatureBits, BitsOf, belowLevel, valuesOf};
+ghost use Rattle.refusal.specs.Refusal.{refuse, numberOf};
+ghost use Rattle.words.specs.Words.{noWords, words as wordsAnswer, wordsOutcome};
+ghost use Rattle.words.specs.Parts.{bitWhere, FeatureBits, belowLevel, valuesOf, levelled};
 
 // A refusal, or the two capability words, HFSCR and FSCR; zeros beside a refusal.
 pub struct FeatureWords {
@@ -77,38 +75,16 @@ fn feature_bits(f: Feature, on: bool) -> Bits
     }
 }
 
-// The bits of the enabled features of a record: one step a feature.
-fn bits_of(r: Record, enabled: Set) -> Bits
-    requires { ⌜ r .count ≤ mostFeatures ⌝ }
-    ensures { λ x. ⌜ BitsOf r (enabled .words) x ⌝ }
-{
-    let n = r.count as usize;
-    let mut hwcap: u64 = 0;
-    let mut hfscr: u64 = 0;
-    let mut fscr: u64 = 0;
-    let mut i: usize = 0;
-    while i < n {
-        let x = feature_bits(r.features[i], positions::member(enabled, i));
-        hwcap = hwcap | x.hwcap;
-        hfscr = hfscr | x.hfscr;
-        fscr = fscr | x.fscr;
-        i += 1;
-    }
-    Bits { hwcap, hfscr, fscr }
-}
-
 fn below_level(upper: u32, level: u32, word: u64) -> u64
     ensures { λ r. ⌜ r ≡ belowLevel upper level word ⌝ }
 {
     if level < upper { word } else { 0 }
 }
 
-// The words of an enabled set, at a level under grants.
-fn values_of(r: Record, level: u32, g: Grants, enabled: Set) -> Values
-    requires { ⌜ r .count ≤ mostFeatures ⌝ }
-    ensures { λ x. ⌜ valuesOf x ≡ wordsOf r level g (enabled .words) ⌝ }
+// The words of the bits of the enabled features, at a level under grants.
+fn values_of(bits: Bits, level: u32, g: Grants) -> Values
+    ensures { λ x. ⌜ valuesOf x ≡ levelled bits level g ⌝ }
 {
-    let bits = bits_of(r, enabled);
     let hwcap = below_level(SYSTEM, level, bits.hwcap);
     Values {
         first: (hwcap % 0x100000000) as u32,
@@ -118,22 +94,41 @@ fn values_of(r: Record, level: u32, g: Grants, enabled: Set) -> Values
     }
 }
 
-// The words of a record at a level under grants.
+fn refused(refusal: Refusal) -> FeatureWords
+    ensures { λ w. ⌜ wordsOutcome w ≡ refuse noWords (numberOf refusal) ⌝ }
+{
+    FeatureWords {
+        refusal,
+        hwcap_first: 0,
+        hwcap_second: 0,
+        hfscr: 0,
+        fscr: 0,
+    }
+}
+
+// The words of a record at a level under grants: the enabled set, and one step a feature.
 pub fn words(r: Record, level: u32, g: Grants) -> FeatureWords
     ensures { λ w. ⌜ wordsOutcome w ≡ wordsAnswer r level g ⌝ }
 {
     let e = enabled::enable(r, level, g);
     let refusal = e.refusal;
     if refusal::number(refusal) != 0 {
-        return FeatureWords {
-            refusal,
-            hwcap_first: 0,
-            hwcap_second: 0,
-            hfscr: 0,
-            fscr: 0,
-        };
+        return refused(refusal);
     }
-    let x = values_of(r, level, g, e.set);
+    let set = e.set;
+    let n = r.count as usize;
+    let mut hwcap: u64 = 0;
+    let mut hfscr: u64 = 0;
+    let mut fscr: u64 = 0;
+    let mut i: usize = 0;
+    while i < n {
+        let x = feature_bits(r.features[i], positions::member(set, i));
+        hwcap = hwcap | x.hwcap;
+        hfscr = hfscr | x.hfscr;
+        fscr = fscr | x.fscr;
+        i += 1;
+    }
+    let x = values_of(Bits { hwcap, hfscr, fscr }, level, g);
     FeatureWords {
         refusal: Refusal::None,
         hwcap_first: x.first,

@@ -1,20 +1,17 @@
 -- `words::values_of` meets its contract. Assumes nothing.
-use Rattle.words.proofs.BitsLaws.{values-are}
+use Rattle.words.proofs.BitsLaws.{levelled-are}
 use borrow.Author.Needs.{needs}
 use Rattle.words.proofs.values_of.Statement.{statement}
 use Rattle.words.proofs.values_of.Tie as tie
 
-bits-of-requires : tie.Need-bits-of-requires
-bits-of-requires c κs = search needs
-
 below-level-requires : tie.Need-below-level-requires
 below-level-requires c κs = search needs
 
+cast-t6 : tie.Need-cast-t6
+cast-t6 c = search needs
+
 cast-t8 : tie.Need-cast-t8
 cast-t8 c = search needs
-
-cast-t10 : tie.Need-cast-t10
-cast-t10 c = search needs
 
 below-level-requires-2 : tie.Need-below-level-requires-2
 below-level-requires-2 c κs = search needs
@@ -23,16 +20,15 @@ below-level-requires-3 : tie.Need-below-level-requires-3
 below-level-requires-3 c κs = search needs
 
 returns : tie.Need-returns
-returns c = values-are _ _ _ _ (c .before .before .before .before .before .before .before .bits-of .ensures) (c .before .before .before .before .before .before .below-level .ensures) (c .before .before .before .below-level2 .ensures) (c .below-level3 .ensures)
+returns c = levelled-are _ _ _ (c .before .before .before .before .before .before .below-level .ensures) (c .before .before .before .below-level2 .ensures) (c .below-level3 .ensures)
 
 pub values-of-spec : {M : Type 1} → statement M
 values-of-spec =
     tie.close
     (tie.spec
-    bits-of-requires
     below-level-requires
+    cast-t6
     cast-t8
-    cast-t10
     below-level-requires-2
     below-level-requires-3
     returns)
