@@ -2,9 +2,9 @@
 #include <stdio.h>
 #include <stdlib.h>
 #include <string.h>
-#include <time.h>
 
 #include "resolver.h"
+#include "timing.h"
 
 enum { RUNS = 401, NANOSECONDS_A_RUN = 40000 };
 
@@ -135,31 +135,12 @@ static void compare_refused(const struct graph *t)
     }
 }
 
-static double now(void)
-{
-    struct timespec t;
-    clock_gettime(CLOCK_MONOTONIC, &t);
-    return t.tv_sec * 1e9 + t.tv_nsec;
-}
-
 static double run(const struct call *c, const struct graph *t, enum who who, long times)
 {
     double start = now();
     for (long k = 0; k < times; k++)
         c->run(t, who);
     return (now() - start) / times;
-}
-
-static int ascending(const void *a, const void *b)
-{
-    double x = *(const double *)a, y = *(const double *)b;
-    return (x > y) - (x < y);
-}
-
-static double median(double *values)
-{
-    qsort(values, RUNS, sizeof *values, ascending);
-    return values[RUNS / 2];
 }
 
 /* Many short runs of each, in turn, so that a slow spell of the machine meets all three: the medians, and those of the ratios of a turn. */
@@ -176,8 +157,8 @@ static void measure(const struct graph *t, const struct call *c)
         tested[k] = values[LIBRARY][k] / values[TESTED][k];
         plain[k] = values[LIBRARY][k] / values[PLAIN][k];
     }
-    printf("%-26s%-14s%9.0f%9.0f%9.0f%9.2f%9.2f", t->name, c->name, median(values[LIBRARY]), median(values[TESTED]),
-        median(values[PLAIN]), median(tested), median(plain));
+    printf("%-26s%-14s%9.0f%9.0f%9.0f%9.2f%9.2f", t->name, c->name, median(values[LIBRARY], RUNS), median(values[TESTED], RUNS),
+        median(values[PLAIN], RUNS), median(tested, RUNS), median(plain, RUNS));
     if (c->goal != 0)
         printf("%7.1f", c->goal);
     printf("\n");

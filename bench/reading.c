@@ -4,9 +4,9 @@
 #include <stdio.h>
 #include <stdlib.h>
 #include <string.h>
-#include <time.h>
 
 #include "resolver.h"
+#include "timing.h"
 #include "yebkuzan.h"
 
 enum { RUNS = 101, LARGEST = YEBKUZAN_LARGEST_TREE };
@@ -174,13 +174,6 @@ static uint64_t enable_libfdt(const struct tree *t)
 
 static volatile uint64_t kept;
 
-static double now(void)
-{
-    struct timespec t;
-    clock_gettime(CLOCK_MONOTONIC, &t);
-    return (double)t.tv_sec * 1e9 + (double)t.tv_nsec;
-}
-
 typedef uint64_t work(const struct tree *t);
 
 static double run(work *w, const struct tree *t, long times)
@@ -189,18 +182,6 @@ static double run(work *w, const struct tree *t, long times)
     for (long k = 0; k < times; k++)
         kept += w(t);
     return (now() - start) / (double)times;
-}
-
-static int ascending(const void *a, const void *b)
-{
-    double x = *(const double *)a, y = *(const double *)b;
-    return (x > y) - (x < y);
-}
-
-static double median(double *values)
-{
-    qsort(values, RUNS, sizeof *values, ascending);
-    return values[RUNS / 2];
 }
 
 static long times_of(work *w, const struct tree *t)
@@ -218,7 +199,7 @@ static void print(size_t length, const char *what, const double *ours, const dou
         y[k] = theirs[k];
         ratio[k] = x[k] / y[k];
     }
-    printf("%6zu bytes: %-30s%10.1f%10.1f%8.2f%7.2f\n", length, what, median(x) / 1000, median(y) / 1000, median(ratio), goal);
+    printf("%6zu bytes: %-30s%10.1f%10.1f%8.2f%7.2f\n", length, what, median(x, RUNS) / 1000, median(y, RUNS) / 1000, median(ratio, RUNS), goal);
 }
 
 static double alone(work *w, const struct tree *t)
@@ -227,7 +208,7 @@ static double alone(work *w, const struct tree *t)
     long m = 1 + (long)(NANOSECONDS_A_RUN / run(w, t, 1));
     for (int k = 0; k < RUNS; k++)
         x[k] = run(w, t, m);
-    return median(x) / 1000;
+    return median(x, RUNS) / 1000;
 }
 
 /* Both sides read the same record. */

@@ -1,6 +1,7 @@
 // The lister's text: the lines of a tree, one at a time.
 use cells::Ending;
 use permitted::Grants;
+use permitted::USER;
 use record::MOST_FEATURES;
 use record::Record;
 use refusal::Refusal;
@@ -28,8 +29,6 @@ ghost use Rattle.listing.specs.Parts.{Put, stringAt, nameIn, othersIn, n
 
 // The most bytes that a line has.
 pub const LONGEST_LINE: usize = 4167;
-
-const USER: u32 = 0;
 
 const ALL_BITS: u64 = 0xffffffffffffffff;
 

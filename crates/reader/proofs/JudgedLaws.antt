@@ -16,9 +16,6 @@ judged-check false k p {n} l good bad =
     let e : n ≡ k = bad refl in
     record { hold = λ z. absurd (omega arith); fail = λ z. rw e (fail-here k p refl) }
 
-pub judged-none : (p : ℕ) → Judged [] 0 p
-judged-none p = record { hold = λ z. tt; fail = λ z. absurd (z refl) }
-
 -- checks behind others
 pub judged-both : (cs ds : List (Check Fault)) {m n p : ℕ} → Judged cs m p → (m ≡ 0 → Judged ds n p) → Judged (cs ++ ds) (firstOf m n) p
 judged-both cs ds {m = zero} j k = record {

@@ -30,9 +30,6 @@ word-small p = collect-words 1 wordBits p .small 0
 pub word-is : (w : ℕ) (p : ℕ → Bool) → w < 2 ^ 64 → ((i : ℕ) → i < 64 → bit w i ≡ p i) → w ≡ wordOf p
 word-is w p h f = bit-ext 64 w (wordOf p) h (word-small p) (λ i l. f i l ∙ sym (bit-word p i l))
 
-pub word-same : (p q : ℕ → Bool) → ((i : ℕ) → i < 64 → p i ≡ q i) → wordOf p ≡ wordOf q
-word-same p q f = word-is (wordOf p) q (word-small p) (λ i l. bit-word p i l ∙ f i l)
-
 pub word-none : (p : ℕ → Bool) → ((i : ℕ) → i < 64 → p i ≡ false) → 0 ≡ wordOf p
 word-none p f = word-is 0 p (omega arith) (λ i l. bit-none i ∙ sym (f i l))
 
