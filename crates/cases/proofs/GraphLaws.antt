@@ -1,16 +1,16 @@
 -- Two graphs of the same dependencies below n, and none that leads out: the same sweeps, reach and chains below n. Assumes nothing.
 use Prim.Native.Nat.{ℕ, zero, suc, _≤_, _<_}
 use mathlib.Core.Path.{_≡_, refl, ap, ap₂, subst, _∙_}
-use mathlib.Core.Bool.{Bool, true, false, not, _&&_, _||_, cond}
+use mathlib.Core.Bool.{Bool, true, false, not, _||_, cond}
 use mathlib.Core.List.{List, _∷_}
 use native.Mathlib.Omega.{arith}
 use lib.Dec.{eqb}
-use Rattle.positions.specs.Below.{every, some}
-use Rattle.positions.proofs.BelowLaws.{every-same}
+use Rattle.positions.specs.Below.{some}
 use Rattle.enabled.specs.Graph.{Below}
 use Rattle.enabled.specs.Enabled.{afterSweeps}
 use Rattle.enabled.specs.Reach.{reach}
 use Rattle.enabled.specs.Shortest.{smallerIf, smallestOf, next, chainWithin}
+use Rattle.enabled.proofs.Sweeps.{sweeps-agree}
 use Rattle.enabled.proofs.Shortest.{next-is}
 
 -- tests that agree below a bound
@@ -42,12 +42,7 @@ module _ (n : ℕ) (num other : ℕ → ℕ) (dep : ℕ → ℕ → ℕ) (graph 
     leftOther = afterSweeps other dep permitted
 
     pub sweeps-same : (k i : ℕ) → i < n → afterSweeps num dep permitted k i ≡ afterSweeps other dep permitted k i
-    unfolding afterSweeps
-    sweeps-same zero i l = refl
-    sweeps-same (suc k) i l =
-        ap (λ (b : Bool). permitted i && b)
-        (every-same (num i) (λ j. left k (dep i j)) (λ j. leftOther k (dep i j)) (λ j h. sweeps-same k (dep i j) (graph .below i l j h))
-        ∙ ap (λ (m : ℕ). every m (λ j. leftOther k (dep i j))) (alike i l))
+    sweeps-same = sweeps-agree n num other dep permitted permitted graph (λ i l. refl) (λ i l e. alike i l)
 
     module _ (top : ℕ) (fits : n ≤ top) where
       abbrev given : ℕ → ℕ → List ℕ

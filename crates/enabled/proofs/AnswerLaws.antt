@@ -1,38 +1,44 @@
 -- The answers of the calls. Assumes nothing.
 use mathlib.Core.Path.{_≡_, refl, sym, ap, ap₂, subst, _∙_}
-use mathlib.Core.Bool.{Bool, true, false}
+use mathlib.Core.Bool.{Bool, true, false, _&&_}
 use mathlib.Core.List.{List}
-use Prim.Native.Nat.{ℕ, _≤_, min}
+use Prim.Native.Nat.{ℕ, _≤_, _<_, min}
+use native.Mathlib.Decide.{decLt}
 use native.Mathlib.Omega.{arith}
+use borrow.Author.Tests.{lt-ltb, le-ltb}
+use lib.Dec.{ltb}
 use lib.ListN.{replicate}
 use Rattle.refusal.specs.Refusal.{Outcome, answer, refuse}
 use Rattle.refusal.proofs.Checks.{passes, stops}
+use Rattle.positions.specs.Sets.{setWords, room, has, collect, firstPositions, isSubset}
+use Rattle.positions.proofs.SetLaws.{has-collect, collect-words, collect-is}
+use Rattle.positions.proofs.MemberLaws.{subset-at}
+use Rattle.positions.proofs.FillLaws.{first-member}
 use Rattle.record.specs.declared.Record.{Record}
 use Rattle.record.specs.Record.{mostFeatures}
 use Rattle.record.specs.WellFormed.{wellFormed}
 use Rattle.record.proofs.Formed.{formed}
 use Rattle.enabled.specs.Tables.{tableWords, dependenciesIn, dependencyIn, dependencyTable, rowsInside}
 use Rattle.permitted.specs.declared.Grants.{Grants}
-use Rattle.permitted.specs.Permitted.{permittedSet}
+use Rattle.permitted.specs.Permitted.{permittedAt, permittedSet}
 use Rattle.permitted.specs.Asked.{askedChecks, Seen, examined}
-use Rattle.enabled.proofs.DependencyLaws.{record-counted, shows-slots, shows-table}
+use Rattle.enabled.proofs.DependencyLaws.{graph-below, record-closed, shows-table}
+use Rattle.enabled.proofs.Largest.{enabled-holds-all}
+use Rattle.enabled.specs.Enabled.{enabled}
 use Rattle.enabled.proofs.CountLaws.{seen-counts}
 use Rattle.permitted.proofs.AskedLaws.{not-formed, all-good, asked-refused, asked-answered, asked-formed, seen-number, seen-value}
 use Rattle.refusal.specs.Checks.{faultOf}
 use Rattle.enabled.specs.Answers.{Members, membersOf, nobody, enabledSet, enable, reachTable, reachOf, enabledByTable, enableByTable}
-use Rattle.enabled.specs.Parts.{slotRow, Counted, CountsOf, Enables, Reaches}
+use Rattle.enabled.specs.Slots.{closedPart}
+use Rattle.enabled.specs.Parts.{CountsOf, Reaches}
 
 -- a well formed record
 pub few : (r : Record) → wellFormed r ≡ true → r .count ≤ mostFeatures
 few r e = formed r e .few
 
 module _ (r : Record) (e : wellFormed r ≡ true) where
-  -- what the sweep finds by its slots and counts, and what the reach table has
+  -- what the reach table has
   module _ {counts : List ℕ} (k : CountsOf r counts) {s : List ℕ} where
-    record-enabled : (permitted : List ℕ) → Enables (slotRow (r .slots) counts) (r .count) permitted s → s ≡ enabledSet r permitted
-    unfolding enabledSet
-    record-enabled permitted f = f (dependenciesIn r) (dependencyIn r) (shows-slots r e k)
-
     record-reached : {table : List ℕ} → table ≡ dependencyTable (r .slots) counts (r .count) → Reaches table (r .count) s
         → answer s ≡ reachOf r
     unfolding reachOf reachTable
@@ -72,18 +78,57 @@ module _ (r : Record) (level : ℕ) (g : Grants) {o : Outcome Seen} (e : o ≡ e
     pub all-seen : {n : ℕ} → n ≡ min (r .count) mostFeatures → n ≡ r .count
     all-seen q = let h = few r form-seen in omega arith
 
-    pub counted-seen : {n : ℕ} → n ≡ min (r .count) mostFeatures → (n ≤ mostFeatures) × Counted (r .slots) (o .value .counts) n
-    counted-seen q = rw (all-seen q) (few r form-seen, record-counted r form-seen counts-seen)
+    pub closed-seen : {n : ℕ} {s : List ℕ} → n ≡ r .count → s ≡ closedPart (r .slots) (o .value .counts) n (o .value .set)
+        → s ≡ enabledSet r (permittedSet r level g)
+    closed-seen {n} k q =
+        q
+        ∙ ap (λ (m : ℕ). closedPart (r .slots) (o .value .counts) m (o .value .set)) k
+        ∙ record-closed r form-seen counts-seen (o .value .set)
+        ∙ ap (enabledSet r) permitted-seen
+
+    -- where all are permitted, all are enabled
+    pub all-seen-enabled : {n : ℕ} {all : List ℕ} → n ≡ r .count → all ≡ firstPositions n → isSubset all (o .value .set) ≡ true
+        → o .value .set ≡ enabledSet r (permittedSet r level g)
+    unfolding enabledSet permittedSet
+    all-seen-enabled {n} {all} k q f =
+        permitted-seen
+        ∙ collect-is p (r .count) (enabled (dependenciesIn r) (dependencyIn r) (has p) (r .count)) (collect-words setWords m (permittedAt r level g)) (omega (arith, few r form-seen))
+        (λ i l. go i l (decLt i (r .count)))
+      where
+        few-seen : r .count ≤ mostFeatures
+        few-seen = few r form-seen
+
+        m : ℕ
+        m = min (r .count) mostFeatures
+
+        p : List ℕ
+        p = collect setWords m (permittedAt r level g)
+
+        here : (i : ℕ) → i < r .count → has p i ≡ true
+        here i h =
+            ap (λ (s : List ℕ). has s i) (sym permitted-seen)
+            ∙ subset-at all (o .value .set) f i (omega (arith, few-seen)) (ap (λ (s : List ℕ). has s i) q ∙ first-member n i (omega (arith, few-seen)) ∙ lt-ltb i n (omega arith))
+
+        go : (i : ℕ) → i < room → Dec (i < r .count) → has p i ≡ ltb i (r .count) && enabled (dependenciesIn r) (dependencyIn r) (has p) (r .count) i
+        go i l (yes h) =
+            here i h
+            ∙ sym (ap₂ _&&_ (lt-ltb i (r .count) h) (enabled-holds-all (dependenciesIn r) (dependencyIn r) (has p) (r .count) (graph-below r form-seen)
+            (λ i. true) (λ i h e. here i h) (λ i h e j l. refl) i h refl))
+        go i l (no h) =
+            has-collect setWords m (permittedAt r level g) (omega (arith, few-seen)) i
+            ∙ ap (λ (b : Bool). b && permittedAt r level g i) (le-ltb i m (omega arith))
+            ∙ sym (ap (λ (b : Bool). b && enabled (dependenciesIn r) (dependencyIn r) (has p) (r .count) i) (le-ltb i (r .count) (omega arith)))
 
     module _ {x : Outcome Members} {s : List ℕ} (q : x ≡ answer (membersOf s)) where
-      pub sweep-answered : {n : ℕ} → n ≡ min (r .count) mostFeatures → Enables (slotRow (r .slots) (o .value .counts)) n (o .value .set) s
-          → x ≡ enable r level g
+      pub enabled-answered : s ≡ enabledSet r (permittedSet r level g) → x ≡ enable r level g
       unfolding enable
-      sweep-answered k f =
+      enabled-answered f =
           q
-          ∙ ap (λ (words : List ℕ). answer (membersOf words))
-          (record-enabled r form-seen counts-seen (o .value .set) (rw (all-seen k) at f) ∙ ap (enabledSet r) permitted-seen)
+          ∙ ap (λ (words : List ℕ). answer (membersOf words)) f
           ∙ asked-answered r level nobody (membersOf (enabledSet r (permittedSet r level g))) number-seen z
+
+      pub sweep-answered : {n : ℕ} → n ≡ r .count → s ≡ closedPart (r .slots) (o .value .counts) n (o .value .set) → x ≡ enable r level g
+      sweep-answered k f = enabled-answered (closed-seen k f)
 
       pub table-answered : (table : List ℕ) → s ≡ rowsInside table (min (r .count) mostFeatures) (o .value .set) → x ≡ enableByTable r table level g
       unfolding enableByTable enabledByTable rowsInside

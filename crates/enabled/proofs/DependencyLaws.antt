@@ -1,22 +1,29 @@
--- Laws of the dependencies of a record: the table of them as the code builds it, and the graph that they show. Assumes nothing.
-use Prim.Native.Nat.{ℕ, _+_, _*_, min}
-use mathlib.Core.Path.{_≡_, ap, _∙_}
-use mathlib.Core.Bool.{Bool, true}
+-- Laws of the dependencies of a record: the table of them as the code builds it, the graph that it shows, and the largest closed part.
+-- Assumes nothing.
+use Prim.Native.Nat.{ℕ, _+_, _*_, _<_, min}
+use mathlib.Core.Path.{_≡_, refl, sym, ap, _∙_}
+use mathlib.Core.Bool.{Bool, true, false, _&&_}
 use mathlib.Core.List.{List}
 use native.Mathlib.Omega.{arith}
-use lib.Dec.{eqb}
+use borrow.Author.Tests.{lt-ltb}
+use lib.Dec.{eqb, ltb}
 use lib.ListN.{getD}
 use Rattle.positions.specs.Below.{some}
-use Rattle.positions.specs.Sets.{setOf}
+use Rattle.positions.specs.Sets.{setWords, has, setOf}
+use Rattle.positions.proofs.BelowLaws.{every-of}
+use Rattle.positions.proofs.SetLaws.{collect-same}
 use Rattle.record.specs.declared.Record.{Record}
 use Rattle.record.specs.Record.{mostFeatures, mostDependencies}
 use Rattle.record.specs.WellFormed.{wellFormed}
 use Rattle.record.proofs.Formed.{formed}
 use Rattle.enabled.specs.Graph.{Below}
 use Rattle.enabled.specs.Tables.{rowAt, tableOf, dependenciesIn, dependencyIn, dependencyTable}
-use Rattle.enabled.specs.Parts.{slotSet, slotRow, Counted, CountsOf, Shows}
+use Rattle.enabled.specs.Enabled.{enabled}
+use Rattle.enabled.specs.Slots.{slotNumber, slotOf, slotsBelow, closedAmong, closedPart}
+use Rattle.enabled.specs.Answers.{enabledSet}
+use Rattle.enabled.specs.Parts.{slotSet, CountsOf, Shows}
+use Rattle.enabled.proofs.Sweeps.{sweeps-agree}
 use Rattle.enabled.proofs.TableLaws.{in-table}
-use Rattle.enabled.proofs.SlotLaws.{has-slots}
 
 module _ (slots counts : List ℕ) where
   -- position t is among the first slots of position i, as many as are counted, sixteen at most
@@ -31,26 +38,34 @@ module _ (slots counts : List ℕ) where
   unfolding dependencyTable inSlots
   rows-all i n table e q = e ∙ ap (λ (m : ℕ). tableOf m inSlots) q
 
+and-true : (b : Bool) → b && true ≡ b
+and-true true = refl
+and-true false = refl
+
 module _ (r : Record) (e : wellFormed r ≡ true) where
   pub graph-below : Below (r .count) (dependenciesIn r) (dependencyIn r)
   graph-below = record { below = λ i h j l. formed r e .each i h .below j l }
 
   module _ {counts : List ℕ} (k : CountsOf r counts) where
-    pub record-counted : Counted (r .slots) counts (r .count)
-    record-counted = record {
-      few = λ i h. omega (arith, k .each i h, formed r e .each i h .few);
-      below = λ i h j l. formed r e .each i h .below j (omega (arith, k .each i h));
-    }
+    -- the largest closed part by the slots and counts of a well-formed record is its enabled set
+    pub record-closed : (permitted : List ℕ) → closedPart (r .slots) counts (r .count) permitted ≡ enabledSet r permitted
+    unfolding closedAmong enabledSet slotsBelow
+    record-closed permitted =
+        let all : min (r .count) mostFeatures ≡ r .count = let few = formed r e .few in omega arith in
+        ap (λ (n : ℕ). closedAmong (r .slots) counts n permitted) all
+        ∙ sym (collect-same setWords (r .count) (enabled (dependenciesIn r) (dependencyIn r) (has permitted) (r .count)) _
+        (sweeps-agree (r .count) (dependenciesIn r) (slotNumber counts) (dependencyIn r) (has permitted) _ graph-below allowed (λ i h q. number i h) (r .count)))
+      where
+        number : (i : ℕ) → i < r .count → dependenciesIn r i ≡ slotNumber counts i
+        number i h = omega (arith, k .each i h, formed r e .each i h .few)
 
-    -- the slots of a well-formed record show its graph, and so does its table
-    pub shows-slots : Shows (dependenciesIn r) (dependencyIn r) (r .count) (slotRow (r .slots) counts)
-    unfolding slotRow
-    shows-slots = record {
-      below = graph-below;
-      rows = λ i t h l.
-          has-slots (r .slots) i (getD counts i 0) t l ∙ ap (λ (m : ℕ). some m (λ (j : ℕ). eqb (dependencyIn r i j) t)) (k .each i h);
-    }
+        allowed : (i : ℕ) → i < r .count → has permitted i ≡ has permitted i && slotsBelow (r .slots) counts (r .count) i
+        allowed i h =
+            sym (ap (λ (b : Bool). has permitted i && b) (every-of (slotNumber counts i) (λ (j : ℕ). ltb (slotOf (r .slots) i j) (r .count))
+            (λ j l. lt-ltb (slotOf (r .slots) i j) (r .count) (formed r e .each i h .below j (omega (arith, number i h)))))
+            ∙ and-true (has permitted i))
 
+    -- its table shows its graph
     pub shows-table : Shows (dependenciesIn r) (dependencyIn r) (r .count) (rowAt (dependencyTable (r .slots) counts (r .count)))
     unfolding dependencyTable inSlots
     shows-table = record {

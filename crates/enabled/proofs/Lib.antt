@@ -14,6 +14,7 @@ pub mod DependencyLaws
 pub mod CountLaws
 pub mod PassLaws
 pub mod SweepLaws
+pub mod PickLaws
 pub mod ThroughLaws
 pub mod JoinLaws
 pub mod InsideLaws

@@ -1,20 +1,22 @@
--- Laws of the slots of a position: the set of them, whether they are inside a set, and the rows that they are. Assumes nothing.
-use Prim.Native.Nat.{ℕ, _+_, _*_, _≤_, _<_}
-use mathlib.Core.Path.{_≡_, refl, sym, ap, subst, _∙_}
-use mathlib.Core.Bool.{Bool, true, false, _||_}
+-- Laws of the slots of a position: the set of them, and whether they are members of a set. Assumes nothing.
+use Prim.Native.Nat.{ℕ, _+_, _*_, _<_}
+use mathlib.Core.Path.{_≡_, refl, sym, ap, ap₂, _∙_}
+use mathlib.Core.Bool.{Bool, true, false, _&&_, _||_}
 use mathlib.Core.List.{List}
 use native.Mathlib.Decide.{decLt}
 use native.Mathlib.Numerals.{add-one}
 use native.Mathlib.Omega.{arith}
-use borrow.Author.Tests.{eq-eqb, eqb-true}
-use lib.Dec.{eqb}
+use borrow.Author.Tests.{lt-ltb, ltb-true}
+use lib.Dec.{eqb, ltb}
 use lib.ListN.{getD}
-use Rattle.positions.specs.Below.{some}
-use Rattle.positions.specs.Sets.{room, has, setOf, noMembers, withMember, isSubset}
-use Rattle.positions.proofs.BelowLaws.{no-way, some-at, some-is}
-use Rattle.positions.proofs.MemberLaws.{has-set-of, set-of-same, subset-at, subset-of}
-use Rattle.record.specs.Record.{mostFeatures, mostDependencies}
-use Rattle.enabled.specs.Parts.{slotSet, SlotsBelow, slotRow, Counted}
+use Rattle.positions.specs.Below.{every, some}
+use Rattle.positions.specs.Sets.{setWords, room, has, setOf, noMembers, withMember, isSubset}
+use Rattle.positions.proofs.BelowLaws.{no-way, and-left, and-right, and-false, every-at, every-of, every-not, every-more}
+use Rattle.positions.proofs.SetLaws.{WordList, has-past}
+use Rattle.positions.proofs.MemberLaws.{has-set-of, set-of-same, subset-at}
+use Rattle.record.specs.Record.{mostDependencies}
+use Rattle.enabled.specs.Slots.{slotNumber, slotOf}
+use Rattle.enabled.specs.Parts.{slotSet, isMember, slotsHeld, slotsIn}
 
 -- the set of the slots read
 pub slots-none : (slots : List ℕ) (i : ℕ) → setOf noMembers ≡ slotSet slots i 0
@@ -32,55 +34,59 @@ slots-more slots i j e =
     let slot : ℕ → ℕ → Bool = λ t j. eqb (getD slots (mostDependencies * i + j) 0) t in
     rw e (set-of-same _ _ (λ t h. ap (λ (b : Bool). b || slot t j) (has-set-of (λ t. some j (slot t)) t h) ∙ some-more j (slot t)))
 
--- the slots that are counted
-module _ (slots counts : List ℕ) (i : ℕ) {m : ℕ} (e : m ≡ getD counts i 0) where
-  pub slot-row : slotSet slots i m ≡ slotRow slots counts i
-  unfolding slotRow
-  slot-row = rw e
+-- whether slots are members of a set, one after the other
+module _ (slots : List ℕ) (i : ℕ) (s : List ℕ) where
+  abbrev test : ℕ → Bool
+  test j = isMember s (slotOf slots i j)
 
-  pub slots-fit : {n : ℕ} → n ≤ mostFeatures → Counted slots counts n → i < n
-      → (i < mostFeatures) × (m ≤ mostDependencies) × SlotsBelow slots i m room
-  slots-fit few k h = (omega arith, omega (arith, k .few i h), λ j l. let b = k .below i h j (omega arith) in omega arith)
+  pub held-none : slotsHeld slots i 0 s ≡ true
+  unfolding slotsHeld every
+  held-none = refl
 
-module _ (slots : List ℕ) (i : ℕ) where
-  abbrev slot : ℕ → ℕ
-  slot j = getD slots (mostDependencies * i + j) 0
+  -- a slot is a member, or none
+  pub held-next : (j : ℕ) {d : ℕ} {b : Bool} → slotsHeld slots i j s ≡ true → d ≡ slotOf slots i j → b ≡ has s d → b ≡ true → WordList setWords s
+      → slotsHeld slots i (j + 1) s ≡ true
+  unfolding slotsHeld isMember
+  held-next j {d} {b} f e q z g =
+      every-more j test f (ap₂ _&&_ (lt-ltb (slotOf slots i j) room (inRoom (decLt (slotOf slots i j) room))) there)
+    where
+      there : has s (slotOf slots i j) ≡ true
+      there = ap (has s) (sym e) ∙ sym q ∙ z
 
-  pub has-slots : (n t : ℕ) → t < room → has (slotSet slots i n) t ≡ some n (λ (j : ℕ). eqb (getD slots (mostDependencies * i + j) 0) t)
-  unfolding slotSet
-  has-slots n t h = has-set-of (λ t. some n (λ j. eqb (slot j) t)) t h
+      inRoom : Dec (slotOf slots i j < room) → slotOf slots i j < room
+      inRoom (yes h) = h
+      inRoom (no h) = no-way (has s (slotOf slots i j)) there (has-past s (slotOf slots i j) (omega (arith, g .size)))
 
-  -- whether the slots read are members of a set
-  module _ (s : List ℕ) where
-    pub slots-inside-none : isSubset (slotSet slots i 0) s ≡ true
-    slots-inside-none = subset-of (slotSet slots i 0) s (λ t h e.
-        let w = some-is 0 (λ j. eqb (slot j) t) (sym (has-slots 0 t h) ∙ e) in
-        absurd (omega (arith, w .1)))
+  pub held-not : (m j : ℕ) {d : ℕ} {b : Bool} → j < m → d ≡ slotOf slots i j → b ≡ has s d → b ≡ false → slotsHeld slots i m s ≡ false
+  unfolding slotsHeld isMember
+  held-not m j {d} {b} h e q z =
+      every-not m test j h (ap (λ (x : Bool). ltb (slotOf slots i j) room && x) (ap (has s) (sym e) ∙ sym q ∙ z) ∙ and-false (ltb (slotOf slots i j) room))
 
-    pub slots-inside-zero : {m : ℕ} → m ≡ 0 → isSubset (slotSet slots i m) s ≡ true
-    slots-inside-zero e = ap (λ (k : ℕ). isSubset (slotSet slots i k) s) e ∙ slots-inside-none
+  pub held-all : (m j : ℕ) → slotsHeld slots i j s ≡ true → j ≡ m → slotsHeld slots i m s ≡ true
+  held-all m j f e = rw (← e) f
 
-    pub slots-inside-more : (j : ℕ) → isSubset (slotSet slots i j) s ≡ true → has s (getD slots (mostDependencies * i + j) 0) ≡ true
-        → isSubset (slotSet slots i (j + 1)) s ≡ true
-    slots-inside-more j e q = subset-of (slotSet slots i (j + 1)) s (λ t h m.
-        let w = some-is (j + 1) (λ k. eqb (slot k) t) (sym (has-slots (j + 1) t h) ∙ m) in
-        go t h (w .0) (w .1) (w .2) (decLt (w .0) j))
-      where
-        go : (t : ℕ) → t < room → (k : ℕ) → k < j + 1 → eqb (slot k) t ≡ true → Dec (k < j) → has s t ≡ true
-        go t h k l m (yes a) = subset-at (slotSet slots i j) s e t h (has-slots j t h ∙ some-at j (λ k. eqb (slot k) t) k a m)
-        go t h k l m (no a) =
-            let b : j ≡ k = omega arith in
-            subst (λ (x : ℕ). has s x ≡ true) (ap slot b ∙ eqb-true (slot k) t m) q
+-- the dependencies of a position, by its slots and how many are counted
+module _ (slots counts : List ℕ) (i : ℕ) where
+  pub slots-in : {m : ℕ} → m ≡ slotNumber counts i → (s : List ℕ) → slotsHeld slots i m s ≡ slotsIn slots counts i s
+  unfolding slotsIn
+  slots-in e s = rw e
 
-    pub slots-inside-all : (n j : ℕ) → isSubset (slotSet slots i j) s ≡ true → j ≡ n → true ≡ isSubset (slotSet slots i n) s
-    slots-inside-all n j e q = sym (rw (← q) e)
+  pub slots-in-none : {m : ℕ} → m ≡ slotNumber counts i → m ≡ 0 → (s : List ℕ) → slotsIn slots counts i s ≡ true
+  slots-in-none e z s = sym (slots-in e s) ∙ ap (λ (k : ℕ). slotsHeld slots i k s) z ∙ held-none slots i s
 
-    pub slots-inside-not : (n j : ℕ) → j < n → getD slots (mostDependencies * i + j) 0 < room
-        → has s (getD slots (mostDependencies * i + j) 0) ≡ false → isSubset (slotSet slots i n) s ≡ false
-    slots-inside-not n j l h e = go (isSubset (slotSet slots i n) s) refl
-      where
-        go : (b : Bool) → isSubset (slotSet slots i n) s ≡ b → isSubset (slotSet slots i n) s ≡ false
-        go false q = q
-        go true q =
-            let here = has-slots n (slot j) h ∙ some-at n (λ k. eqb (slot k) (slot j)) j l (eq-eqb (slot j) (slot j) refl) in
-            no-way (has s (slot j)) (subset-at (slotSet slots i n) s q (slot j) h here) e
+  pub slots-at : (s : List ℕ) → slotsIn slots counts i s ≡ true → (j : ℕ) → j < slotNumber counts i
+      → (slotOf slots i j < room) × (has s (slotOf slots i j) ≡ true)
+  unfolding slotsIn slotsHeld isMember
+  slots-at s e j h =
+      let t = every-at (slotNumber counts i) (λ j. isMember s (slotOf slots i j)) e j h in
+      (ltb-true (slotOf slots i j) room (and-left (ltb (slotOf slots i j) room) (has s (slotOf slots i j)) t), and-right (ltb (slotOf slots i j) room) (has s (slotOf slots i j)) t)
+
+  pub slots-of : (s : List ℕ) → ((j : ℕ) → j < slotNumber counts i → (slotOf slots i j < room) × (has s (slotOf slots i j) ≡ true))
+      → slotsIn slots counts i s ≡ true
+  unfolding slotsIn slotsHeld isMember
+  slots-of s f =
+      every-of (slotNumber counts i) (λ j. isMember s (slotOf slots i j)) (λ j h. ap₂ _&&_ (lt-ltb (slotOf slots i j) room (f j h .0)) (f j h .1))
+
+  -- the members of a larger set
+  pub slots-wider : (a b : List ℕ) → isSubset a b ≡ true → slotsIn slots counts i a ≡ true → slotsIn slots counts i b ≡ true
+  slots-wider a b h e = slots-of b (λ j l. let t = slots-at a e j l in (t .0, subset-at a b h (slotOf slots i j) (t .0) (t .1)))

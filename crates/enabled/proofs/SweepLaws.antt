@@ -1,114 +1,139 @@
--- Laws of the sweep: what is left when a pass takes nothing out is the enabled set of every graph that the rows show. Assumes nothing.
-use Prim.Native.Nat.{ℕ, _≤_, _<_}
+-- Laws of the passes over slots: what is left when a pass takes nothing out is the largest closed part. Assumes nothing.
+use Prim.Native.Nat.{ℕ, _≤_, _<_, min}
 use mathlib.Core.Path.{_≡_, refl, sym, ap, ap₂, subst, _∙_}
-use mathlib.Core.Bool.{Bool, true, false, _&&_}
+use mathlib.Core.Bool.{Bool, true, false, _&&_, cond}
 use mathlib.Core.List.{List}
 use native.Mathlib.Decide.{decLt}
 use native.Mathlib.Omega.{arith}
-use borrow.Author.Tests.{eq-eqb, eqb-true, lt-ltb, le-ltb, ltb-true}
-use lib.Dec.{eqb, ltb}
+use borrow.Author.Tests.{lt-ltb, le-ltb, ltb-true}
+use lib.Dec.{ltb}
+use Rattle.positions.specs.Below.{every}
 use Rattle.positions.specs.Sets.{setWords, room, has, collect, common, firstPositions, isSubset, memberCount}
-use Rattle.positions.proofs.BelowLaws.{no-way, and-left, and-right, some-at, some-is}
+use Rattle.positions.proofs.BelowLaws.{no-way, and-left, and-right, every-at, every-of}
 use Rattle.positions.proofs.SetLaws.{WordList, has-collect, collect-is}
 use Rattle.positions.proofs.MemberLaws.{common-member, subset-at, subset-of, subset-on, fewer-members}
 use Rattle.positions.proofs.FillLaws.{first-member}
 use Rattle.record.specs.Record.{mostFeatures}
+use Rattle.enabled.specs.Graph.{Below}
 use Rattle.enabled.specs.Enabled.{enabled}
-use Rattle.enabled.specs.Parts.{Shows, ClosedRows, TakesOut, Passes, Enables}
+use Rattle.enabled.specs.Slots.{slotNumber, slotOf, slotsBelow, closedAmong}
+use Rattle.enabled.specs.declared.Left.{Left}
+use Rattle.enabled.specs.Parts.{slotsIn, ClosedSet, TakesOut, Passes}
 use Rattle.enabled.proofs.Largest.{enabled-permitted, enabled-closed, enabled-holds-all}
-use Rattle.enabled.proofs.PassLaws.{takes-none, takes-on}
+use Rattle.enabled.proofs.Sweeps.{sweeps-agree}
+use Rattle.enabled.proofs.SlotLaws.{slots-at, slots-of, slots-wider}
+use Rattle.enabled.proofs.PassLaws.{takes-on}
 
-module _ (row : ℕ → List ℕ) (n : ℕ) (few : n ≤ mostFeatures) where
-  -- the dependencies of a position in its row, and only these
-  module _ (num : ℕ → ℕ) (dep : ℕ → ℕ → ℕ) (sh : Shows num dep n row) where
-    in-row : (i : ℕ) → i < n → (j : ℕ) → j < num i → has (row i) (dep i j) ≡ true
-    in-row i h j l =
-        let b = sh .below .below i h j l in
-        sh .rows i (dep i j) h (omega arith) ∙ some-at (num i) (λ k. eqb (dep i k) (dep i j)) j l (eq-eqb (dep i j) (dep i j) refl)
+module _ (slots counts : List ℕ) (n : ℕ) (few : n ≤ mostFeatures) where
+  abbrev within : ℕ → Bool
+  within = slotsBelow slots counts n
 
-    from-row : (i t : ℕ) → i < n → t < room → has (row i) t ≡ true → (j : ℕ) × (j < num i) × (dep i j ≡ t)
-    from-row i t h l e =
-        let w = some-is (num i) (λ j. eqb (dep i j) t) (sym (sh .rows i t h l) ∙ e) in
-        (w .0, w .1, eqb-true (dep i (w .0)) t (w .2))
+  -- the dependencies of the positions that have none outside; they lead to none outside
+  abbrev number : ℕ → ℕ
+  number i = cond (within i) (slotNumber counts i) 0
 
-  -- s is a part of the first n permitted positions that keeps every closed part
-  module _ (p s : List ℕ) (g : WordList setWords s) (t : TakesOut row n (common p (firstPositions n)) s) where
+  number-is : (i : ℕ) → within i ≡ true → number i ≡ slotNumber counts i
+  number-is i e = rw e
+
+  below-at : (i : ℕ) → within i ≡ true → (j : ℕ) → j < slotNumber counts i → slotOf slots i j < n
+  unfolding slotsBelow
+  below-at i e j h = ltb-true (slotOf slots i j) n (every-at (slotNumber counts i) (λ j. ltb (slotOf slots i j) n) e j h)
+
+  graph : Below n number (slotOf slots)
+  graph = record { below = λ i h j l. go i j l (within i) refl }
+    where
+      go : (i j : ℕ) → j < number i → (b : Bool) → within i ≡ b → slotOf slots i j < n
+      go i j l true e = below-at i e j (rw e at l)
+      go i j l false e = let z : number i ≡ 0 = rw e in absurd (omega arith)
+
+  -- s is a part of the first n of the positions of p that keeps every closed part
+  module _ (p s : List ℕ) (g : WordList setWords s) (t : TakesOut (slotsIn slots counts) n (common p (firstPositions n)) s) where
+    abbrev permitted : ℕ → Bool
+    permitted i = has p i && within i
+
+    abbrev E : ℕ → Bool
+    E = enabled number (slotOf slots) permitted n
+
     member : (i : ℕ) → i < room → has s i ≡ true → (has p i ≡ true) × (i < n)
     member i h e =
         let both = sym (common-member p (firstPositions n) i h) ∙ subset-at s (common p (firstPositions n)) (t .fewer) i h e in
         (and-left (has p i) (has (firstPositions n) i) both, ltb-true i n (sym (first-member n i h) ∙ and-right (has p i) (has (firstPositions n) i) both))
 
-    module _ (num : ℕ → ℕ) (dep : ℕ → ℕ → ℕ) (sh : Shows num dep n row) where
-      abbrev E : ℕ → Bool
-      E = enabled num dep (has p) n
+    -- the members of s are enabled, where it is closed
+    module _ (c : ClosedSet (slotsIn slots counts) n s) where
+      inside-below : (i : ℕ) → i < n → has s i ≡ true → within i ≡ true
+      unfolding slotsBelow
+      inside-below i h e = every-of (slotNumber counts i) (λ j. ltb (slotOf slots i j) n) (λ j l.
+          let d = slots-at slots counts i s (c i h e) j l in
+          lt-ltb (slotOf slots i j) n (member (slotOf slots i j) (d .0) (d .1) .1))
 
-      inside : ClosedRows row 0 n s → (i : ℕ) → i < n → has s i ≡ true → E i ≡ true
-      inside c =
-          enabled-holds-all num dep (has p) n (sh .below) (has s) (λ i h e. member i (omega arith) e .0)
-          (λ i h e j l.
-          let b = sh .below .below i h j l in
-          subset-at (row i) s (c i (omega arith) h e) (dep i j) (omega arith) (in-row num dep sh i h j l))
+      inside : (i : ℕ) → i < n → has s i ≡ true → E i ≡ true
+      inside =
+          enabled-holds-all number (slotOf slots) permitted n graph (has s)
+          (λ i h e. ap₂ _&&_ (member i (omega arith) e .0) (inside-below i h e))
+          (λ i h e j l. slots-at slots counts i s (c i h e) j (rw (number-is i (inside-below i h e)) at l) .1)
 
-      -- the enabled positions as words
-      abbrev words : List ℕ
-      words = collect setWords n E
+    -- the enabled positions as words: a closed part
+    abbrev words : List ℕ
+    words = collect setWords n E
 
-      in-words : (i : ℕ) → has words i ≡ ltb i n && E i
-      in-words i = has-collect setWords n E (omega arith) i
+    in-words : (i : ℕ) → has words i ≡ ltb i n && E i
+    in-words i = has-collect setWords n E (omega arith) i
 
-      closed : ClosedRows row 0 n words
-      closed i a h e = subset-of (row i) words (λ t l q.
-          let w = from-row num dep sh i t h l q in
-          let b = sh .below .below i h (w .0) (w .1) in
-          let k = enabled-closed num dep (has p) n (sh .below) i h (and-right (ltb i n) (E i) (sym (in-words i) ∙ e)) (w .0) (w .1) in
-          subst (λ (x : ℕ). has words x ≡ true) (w .2) (in-words (dep i (w .0)) ∙ ap₂ _&&_ (lt-ltb (dep i (w .0)) n b) k))
+    enabled-at : (i : ℕ) → has words i ≡ true → (i < n) × (E i ≡ true)
+    enabled-at i e = (ltb-true i n (and-left (ltb i n) (E i) (sym (in-words i) ∙ e)), and-right (ltb i n) (E i) (sym (in-words i) ∙ e))
 
-      start : isSubset words (common p (firstPositions n)) ≡ true
-      start = subset-of words (common p (firstPositions n)) (λ i l e.
-          let low = and-left (ltb i n) (E i) (sym (in-words i) ∙ e) in
-          let own = enabled-permitted num dep (has p) n (sh .below) i (ltb-true i n low) (and-right (ltb i n) (E i) (sym (in-words i) ∙ e)) in
-          common-member p (firstPositions n) i l ∙ ap₂ _&&_ own (first-member n i l ∙ low))
+    allowed : (i : ℕ) → has words i ≡ true → permitted i ≡ true
+    allowed i e = let w = enabled-at i e in enabled-permitted number (slotOf slots) permitted n graph i (w .0) (w .1)
 
-      -- where s is closed it is the enabled set
-      swept : ClosedRows row 0 n s → s ≡ collect setWords n (enabled num dep (has p) n)
-      swept c = collect-is s n E g (omega arith) (λ i l. go i l (decLt i n) (has s i) refl)
-        where
-          go : (i : ℕ) → i < room → Dec (i < n) → (b : Bool) → has s i ≡ b → has s i ≡ ltb i n && E i
-          go i l (yes h) true e = e ∙ sym (ap₂ _&&_ (lt-ltb i n h) (inside c i h e))
-          go i l (yes h) false e = e ∙ sym (rw (lt-ltb i n h) (out (E i) refl))
-            where
-              out : (b : Bool) → E i ≡ b → E i ≡ false
-              out false q = q
-              out true q = no-way (has s i) (subset-at words s (t .keeps words closed start) i l (in-words i ∙ ap₂ _&&_ (lt-ltb i n h) q)) e
-          go i l (no h) true e = absurd (h (member i l e .1))
-          go i l (no h) false e = e ∙ sym (rw (le-ltb i n (omega arith)))
+    closed : ClosedSet (slotsIn slots counts) n words
+    closed i h e =
+        let w = and-right (has p i) (within i) (allowed i e) in
+        slots-of slots counts i words (λ j l.
+        let b = below-at i w j l in
+        let k = enabled-closed number (slotOf slots) permitted n graph i h (enabled-at i e .1) j (rw (number-is i w) l) in
+        (omega arith, in-words (slotOf slots i j) ∙ ap₂ _&&_ (lt-ltb (slotOf slots i j) n b) k))
 
-  -- from the permitted ones of the first n positions
-  module _ (p b start : List ℕ) (e : start ≡ common p b) (q : b ≡ firstPositions n) where
-    begun : (s : List ℕ) → TakesOut row n start s → TakesOut row n (common p (firstPositions n)) s
-    begun s o = subst (λ (x : List ℕ). TakesOut row n x s) (e ∙ ap (common p) q) o
+    start : isSubset words (common p (firstPositions n)) ≡ true
+    start = subset-of words (common p (firstPositions n)) (λ i l e.
+        common-member p (firstPositions n) i l
+        ∙ ap₂ _&&_ (and-left (has p i) (within i) (allowed i e)) (first-member n i l ∙ lt-ltb i n (enabled-at i e .0)))
 
-    -- where they are all of the first n, all of these are enabled
-    pub all-enabled : isSubset b start ≡ true → WordList setWords start → Enables row n p start
-    all-enabled all g num dep sh =
-        swept p start g (begun start (takes-none row n start)) num dep sh (λ i a h m. subset-of (row i) start (λ t l k.
-        let w = from-row num dep sh i t h l k in
-        let low = sh .below .below i h (w .0) (w .1) in
-        subset-at b start all t l (rw q (first-member n t l ∙ lt-ltb t n (omega (arith, w .2))))))
+    abbrev D : ℕ → Bool
+    D = enabled (slotNumber counts) (slotOf slots) permitted n
 
-    -- a pass that takes nothing out is the last
-    pub pass-last : (s t : List ℕ) → TakesOut row n start s → Passes row n 0 n s t → isSubset s t ≡ true → WordList setWords t
-        → Enables row n p t
-    pass-last s t o pass last g num dep sh =
-        swept p t g (begun t (takes-on row n start s t o (pass .out))) num dep sh (λ i a h m.
-        subset-on (row i) s t (pass .done last i a h (subset-at t s (pass .out .fewer) i (omega arith) m)) last)
+    -- where s is closed it is the largest closed part
+    swept : ClosedSet (slotsIn slots counts) n s → s ≡ closedAmong slots counts n p
+    unfolding closedAmong
+    swept c = collect-is s n _ g (omega arith) (λ i l. go i l (decLt i n) (has s i) refl)
+      where
+        agree : (i : ℕ) → i < n → E i ≡ D i
+        agree =
+            sweeps-agree n number (slotNumber counts) (slotOf slots) permitted permitted graph (λ i h. refl)
+            (λ i h e. number-is i (and-right (has p i) (within i) e)) n
 
--- a pass that takes one out, and one more pass
-pub round-less : (row : ℕ → List ℕ) (n : ℕ) (s t u : List ℕ) → Passes row n 0 n s t → Passes row n 0 n t u → isSubset s t ≡ false
-    → memberCount u < memberCount s
-round-less row n s t u up down e =
-    fewer-members u s (subset-on u t s (down .out .fewer) (up .out .fewer)) (go (isSubset s u) refl)
-  where
-    go : (b : Bool) → isSubset s u ≡ b → isSubset s u ≡ false
-    go true q = no-way (isSubset s t) (subset-on s u t q (down .out .fewer)) e
-    go false q = q
+        go : (i : ℕ) → i < room → Dec (i < n) → (b : Bool) → has s i ≡ b → has s i ≡ ltb i n && D i
+        go i l (yes h) true e = e ∙ sym (ap₂ _&&_ (lt-ltb i n h) (sym (agree i h) ∙ inside c i h e))
+        go i l (yes h) false e = e ∙ sym (rw (lt-ltb i n h) (sym (agree i h) ∙ out (E i) refl))
+          where
+            out : (b : Bool) → E i ≡ b → E i ≡ false
+            out false q = q
+            out true q = no-way (has s i) (subset-at words s (t .keeps words closed start) i l (in-words i ∙ ap₂ _&&_ (lt-ltb i n h) q)) e
+        go i l (no h) true e = absurd (h (member i l e .1))
+        go i l (no h) false e = e ∙ sym (rw (le-ltb i n (omega arith)))
+
+  -- a pass that takes nothing out is the last
+  pub pass-last : (p : List ℕ) {start all s : List ℕ} (r : Left) → start ≡ common p all → all ≡ firstPositions n → TakesOut (slotsIn slots counts) n start s
+      → Passes (slotsIn slots counts) n s r → {last : Bool} → last ≡ isSubset s (r .members .words) → last ≡ true → WordList setWords (r .members .words)
+      → {m : ℕ} → n ≡ m → r .members .words ≡ closedAmong slots counts m p
+  pass-last p {s = s} r e q o pass z y g k =
+      let last = sym z ∙ y in
+      let t = r .members .words in
+      swept p t g (subst (λ (x : List ℕ). TakesOut (slotsIn slots counts) n x t) (e ∙ ap (common p) q) (takes-on (slotsIn slots counts) n _ s t o (pass .out)))
+      (λ i h m. slots-wider slots counts i s t last (pass .done last i h (subset-at t s (pass .out .fewer) i (omega arith) m)))
+      ∙ ap (λ (m : ℕ). closedAmong slots counts m p) k
+
+-- a pass that takes one out leaves fewer
+pub pass-less : (held : ℕ → List ℕ → Bool) (n : ℕ) (s : List ℕ) (r : Left) → Passes held n s r → {last : Bool} → last ≡ isSubset s (r .members .words)
+    → last ≡ false → memberCount (r .members .words) < memberCount s
+pass-less held n s r p e z = fewer-members (r .members .words) s (p .out .fewer) (sym e ∙ z)

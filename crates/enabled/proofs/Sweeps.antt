@@ -1,9 +1,9 @@
 -- What is left after k sweeps: permitted positions, whose dependencies were left by the sweep before. Assumes nothing.
 use Prim.Native.Nat.{ℕ, zero, suc, _<_}
-use mathlib.Core.Path.{_≡_}
-use mathlib.Core.Bool.{Bool, true, false}
+use mathlib.Core.Path.{_≡_, refl, sym, ap, ap₂, _∙_}
+use mathlib.Core.Bool.{Bool, true, false, _&&_}
 use Rattle.positions.specs.Below.{every}
-use Rattle.positions.proofs.BelowLaws.{and-left, and-right, and-false, every-at, every-of, every-not}
+use Rattle.positions.proofs.BelowLaws.{and-left, and-right, and-false, every-at, every-of, every-not, every-same}
 use Rattle.enabled.specs.Graph.{Below}
 use Rattle.enabled.specs.Enabled.{afterSweeps, Within, Closed}
 
@@ -43,3 +43,19 @@ module _ (num : ℕ → ℕ) (dep : ℕ → ℕ → ℕ) (permitted : ℕ → Bo
   sweeps-largest n graph s f c zero i l e = f i l e
   sweeps-largest n graph s f c (suc k) i l e =
       sweeps-of k i (f i l e) (λ j h. sweeps-largest n graph s f c k (dep i j) (graph .below i l j h) (c i l e j h))
+
+-- two graphs of the same dependencies below n, and none that leads out, as far as they are permitted: the same sweeps below n
+module _ (n : ℕ) (num other : ℕ → ℕ) (dep : ℕ → ℕ → ℕ) (p q : ℕ → Bool) (graph : Below n num dep) (same : (i : ℕ) → i < n → p i ≡ q i)
+    (alike : (i : ℕ) → i < n → p i ≡ true → num i ≡ other i) where
+  pub sweeps-agree : (k i : ℕ) → i < n → afterSweeps num dep p k i ≡ afterSweeps other dep q k i
+  unfolding afterSweeps
+  sweeps-agree zero i l = same i l
+  sweeps-agree (suc k) i l = go (λ j h. sweeps-agree k (dep i j) (graph .below i l j h)) (p i) refl
+    where
+      go : ((j : ℕ) → j < num i → afterSweeps num dep p k (dep i j) ≡ afterSweeps other dep q k (dep i j)) → (b : Bool) → p i ≡ b
+          → (p i && every (num i) (λ j. afterSweeps num dep p k (dep i j))) ≡ (q i && every (other i) (λ j. afterSweeps other dep q k (dep i j)))
+      go f false e = rw (e, sym (same i l) ∙ e)
+      go f true e =
+          ap₂ _&&_ (same i l)
+          (every-same (num i) (λ j. afterSweeps num dep p k (dep i j)) (λ j. afterSweeps other dep q k (dep i j)) f
+          ∙ ap (λ (m : ℕ). every m (λ j. afterSweeps other dep q k (dep i j))) (alike i l e))

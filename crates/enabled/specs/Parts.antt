@@ -1,19 +1,21 @@
 -- What the functions behind the public ones promise.
 use Prim.Native.Nat.{ℕ, _+_, _*_, _≤_, _<_}
 use mathlib.Core.Path.{_≡_}
-use mathlib.Core.Bool.{Bool, true, not, _&&_, _||_, cond}
+use mathlib.Core.Bool.{Bool, true, false, _&&_, _||_, cond}
+use mathlib.Core.Logic.{_⊎_}
 use mathlib.Core.List.{List}
-use lib.Dec.{eqb}
+use lib.Dec.{eqb, ltb}
 use lib.ListN.{getD}
 use lib.Seq.{sets}
-use Rattle.positions.specs.Below.{some}
-use Rattle.positions.specs.Sets.{setWords, room, has, collect, setOf, withMember, withoutMember, either, isSubset}
+use Rattle.positions.specs.Below.{every, some}
+use Rattle.positions.specs.Sets.{setWords, room, has, setOf, withMember, withoutMember, either, isSubset}
 use Rattle.record.specs.declared.Record.{Record}
 use Rattle.record.specs.Record.{mostDependencies}
 use Rattle.enabled.specs.Graph.{Below}
-use Rattle.enabled.specs.Enabled.{enabled}
 use Rattle.enabled.specs.Reach.{reach}
 use Rattle.enabled.specs.Tables.{rowAt, inRow, tableOf, dependenciesIn}
+use Rattle.enabled.specs.Slots.{slotNumber, slotOf}
+use Rattle.enabled.specs.declared.Left.{Left}
 
 -- a table with the words of row i replaced
 unfoldable pub withRow : List ℕ → ℕ → List ℕ → List ℕ
@@ -23,18 +25,17 @@ withRow table i words = sets table (setWords * i) words
 unfoldable pub slotSet : List ℕ → ℕ → ℕ → List ℕ
 slotSet slots i n = setOf (λ (t : ℕ). some n (λ (j : ℕ). eqb (getD slots (mostDependencies * i + j) 0) t))
 
--- the first n slots of position i are below m
-abbrev pub SlotsBelow : List ℕ → ℕ → ℕ → ℕ → Type 0
-SlotsBelow slots i n m = (j : ℕ) → j < n → getD slots (mostDependencies * i + j) 0 < m
+-- a position is a member of a set; none past its last word is
+unfoldable pub isMember : List ℕ → ℕ → Bool
+isMember s i = ltb i room && has s i
 
--- the dependencies of position i, by its slots and how many of them are counted
-unfoldable pub slotRow : List ℕ → List ℕ → ℕ → List ℕ
-slotRow slots counts i = slotSet slots i (getD counts i 0)
+-- the first m slots of position i are all members of a set
+unfoldable pub slotsHeld : List ℕ → ℕ → ℕ → List ℕ → Bool
+slotsHeld slots i m s = every m (λ (j : ℕ). isMember s (slotOf slots i j))
 
--- of each of n positions at most sixteen slots are counted, and each of these is below n
-pub record Counted (slots counts : List ℕ) (n : ℕ) : Type 0 where
-  pub few : (i : ℕ) → i < n → getD counts i 0 ≤ mostDependencies
-  pub below : (i : ℕ) → i < n → SlotsBelow slots i (getD counts i 0) n
+-- the dependencies of position i are all members of a set
+unfoldable pub slotsIn : List ℕ → List ℕ → ℕ → List ℕ → Bool
+slotsIn slots counts i s = slotsHeld slots i (slotNumber counts i) s
 
 -- the counts are those of a record's features
 pub record CountsOf (r : Record) (counts : List ℕ) : Type 0 where
@@ -45,28 +46,47 @@ pub record Shows (num : ℕ → ℕ) (dep : ℕ → ℕ → ℕ) (n : ℕ) (row 
   pub below : Below n num dep
   pub rows : (i t : ℕ) → i < n → t < room → has (row i) t ≡ some (num i) (λ (j : ℕ). eqb (dep i j) t)
 
--- a set without i where i is a member whose row is not inside it
-unfoldable pub keptIn : List ℕ → List ℕ → ℕ → List ℕ
-keptIn s row i = cond (has s i && not (isSubset row s)) (withoutMember s i) s
+-- position i is tested: it is taken out, or noted, where its dependencies are members
+abbrev pub leftOf : Bool → List ℕ → ℕ → List ℕ
+leftOf true s i = s
+leftOf false s i = withoutMember s i
 
--- each member from lo to below hi has its row inside the set
-abbrev pub ClosedRows : (ℕ → List ℕ) → ℕ → ℕ → List ℕ → Type 0
-ClosedRows row lo hi s = (i : ℕ) → lo ≤ i → i < hi → has s i ≡ true → isSubset (row i) s ≡ true
+abbrev pub notedOf : Bool → List ℕ → ℕ → List ℕ
+notedOf true s i = withMember s i
+notedOf false s i = s
 
--- members are taken out of a set, none of them one of a part of it whose members have their rows inside that part
-pub record TakesOut (row : ℕ → List ℕ) (n : ℕ) (old new : List ℕ) : Type 0 where
+pub record Tested (held : Bool) (i : ℕ) (x r : Left) : Type 0 where
+  pub members : r .members .words ≡ leftOf held (x .members .words) i
+  pub needy : r .needy .words ≡ notedOf held (x .needy .words) i
+
+-- where it is a member and has dependencies, m of them
+pub record TestedMember (held : Bool) (i m : ℕ) (x r : Left) : Type 0 where
+  pub same : (m ≡ 0) ⊎ (has (x .members .words) i ≡ false) → r ≡ x
+  pub tested : (m ≡ 0 → ⊥) → has (x .members .words) i ≡ true → Tested held i x r
+
+-- members are taken out of a set, none of them one of a closed part of it; `held i s` says that the dependencies of i are members of s
+abbrev pub ClosedSet : (ℕ → List ℕ → Bool) → ℕ → List ℕ → Type 0
+ClosedSet held n s = (i : ℕ) → i < n → has s i ≡ true → held i s ≡ true
+
+pub record TakesOut (held : ℕ → List ℕ → Bool) (n : ℕ) (old new : List ℕ) : Type 0 where
   pub fewer : isSubset new old ≡ true
-  pub keeps : (s : List ℕ) → ClosedRows row 0 n s → isSubset s old ≡ true → isSubset s new ≡ true
+  pub keeps : (s : List ℕ) → ClosedSet held n s → isSubset s old ≡ true → isSubset s new ≡ true
 
--- where none is taken out, the members from lo to below hi have their rows inside the set
-pub record Passes (row : ℕ → List ℕ) (n lo hi : ℕ) (old new : List ℕ) : Type 0 where
-  pub out : TakesOut row n old new
-  pub done : isSubset old new ≡ true → ClosedRows row lo hi old
+-- each of n members has no dependencies or is noted, and none else is
+pub record Needy (held : ℕ → List ℕ → Bool) (n : ℕ) (members needy : List ℕ) : Type 0 where
+  pub low : (i : ℕ) → i < room → has needy i ≡ true → i < n
+  pub idle : (i : ℕ) → i < n → has members i ≡ true → has needy i ≡ false → (s : List ℕ) → held i s ≡ true
 
--- the enabled positions, as words, of every graph that rows show
-abbrev pub Enables : (ℕ → List ℕ) → ℕ → List ℕ → List ℕ → Type 0
-Enables row n permitted s =
-    (num : ℕ → ℕ) (dep : ℕ → ℕ → ℕ) → Shows num dep n row → s ≡ collect setWords n (enabled num dep (has permitted) n)
+-- a pass over n positions: where it takes none out, the set is closed
+pub record Passes (held : ℕ → List ℕ → Bool) (n : ℕ) (old : List ℕ) (r : Left) : Type 0 where
+  pub out : TakesOut held n old (r .members .words)
+  pub done : isSubset old (r .members .words) ≡ true → ClosedSet held n old
+  pub needy : Needy held n (r .members .words) (r .needy .words)
+
+-- a member of a set, or a number past its words where it has none
+pub record Picks (s : List ℕ) (r : ℕ) : Type 0 where
+  pub member : r < room → has s r ≡ true
+  pub none : room ≤ r → (i : ℕ) → i < room → has s i ≡ false
 
 -- the dependencies of each of n positions, and itself
 unfoldable pub withSelf : List ℕ → ℕ → ℕ → Bool

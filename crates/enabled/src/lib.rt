@@ -20,18 +20,19 @@ ghost use Rattle.enabled.specs.Answers.{
   reachOutcome,
 };
 ghost use Prim.Native.Nat.{_≤_, _<_, min};
-ghost use Rattle.positions.specs.Sets.{room, isSubset};
 ghost use Rattle.record.specs.Record.{mostFeatures, mostDependencies};
 ghost use Rattle.enabled.specs.Tables.{rowOrNone, tableOf, dependencyTable, rowsInside};
+ghost use Rattle.enabled.specs.Slots.{slotNumber, closedPart};
 ghost use Rattle.enabled.specs.Parts.{
   withRow,
   slotSet,
-  SlotsBelow,
-  slotRow,
-  Counted,
-  keptIn,
+  slotsHeld,
+  slotsIn,
+  Tested,
+  TestedMember,
+  Needy,
   Passes,
-  Enables,
+  Picks,
   withSelf,
   joined as joinedOf,
   Joins,
@@ -60,6 +61,12 @@ pub struct ReachTable {
     pub rows: Rows,
 }
 
+// What is left of a set, and those of it that have dependencies, which were members when they were last tested.
+struct Left {
+    members: Set,
+    needy: Set,
+}
+
 // A slot as a position.
 fn wide(x: u16) -> usize
     ensures { λ r. ⌜ r ≡ x ⌝ }
@@ -68,7 +75,7 @@ fn wide(x: u16) -> usize
 }
 
 // A count of slots as a number of rounds.
-fn amount(x: u32) -> usize
+fn amount(x: u8) -> usize
     ensures { λ r. ⌜ r ≡ x ⌝ }
 {
     x as usize
@@ -102,6 +109,14 @@ fn put_row(table: &mut [u64; TABLE_WORDS], i: usize, s: Set)
     }
 }
 
+// How many of its sixteen slots a position uses.
+fn used(counts: &[u8; MOST_FEATURES], i: usize) -> usize
+    requires { ⌜ i < mostFeatures ⌝ }
+    ensures { λ r. ⌜ r ≡ slotNumber (now (counts .entry)) i ⌝ }
+{
+    cells::least(amount(counts[i]), MOST_DEPENDENCIES)
+}
+
 // The set of the first `n` slots of position `i`: a round for each slot, which changes one word.
 fn dependencies(slots: &[u16; SLOTS], i: usize, n: usize) -> Set
     requires { ⌜ (i < mostFeatures) × (n ≤ mostDependencies) ⌝ }
@@ -117,103 +132,143 @@ fn dependencies(slots: &[u16; SLOTS], i: usize, n: usize) -> Set
 }
 
 // The first slots of each of `n` positions, as many as are counted, as rows: at most 64 rounds, each of at most sixteen slots and one row.
-pub fn dependency_rows(slots: &[u16; SLOTS], counts: &[u32; MOST_FEATURES], n: usize) -> Rows
+pub fn dependency_rows(slots: &[u16; SLOTS], counts: &[u8; MOST_FEATURES], n: usize) -> Rows
     ensures { λ r. ⌜ r .words ≡ dependencyTable (now (slots .entry)) (now (counts .entry)) n ⌝ }
 {
     let rows = cells::least(n, MOST_FEATURES);
     let mut words: [u64; TABLE_WORDS] = [0; TABLE_WORDS];
     let mut i: usize = 0;
     while i < rows {
-        let m = cells::least(amount(counts[i]), MOST_DEPENDENCIES);
-        put_row(&mut words, i, dependencies(slots, i, m));
+        put_row(&mut words, i, dependencies(slots, i, used(counts, i)));
         i += 1;
     }
     Rows { words }
 }
 
-// Whether the first `m` slots of position `i` are all members of a set: a round for each slot, up to the first that is not.
-fn inside(slots: &[u16; SLOTS], i: usize, m: usize, s: Set) -> bool
-    requires { ⌜ (i < mostFeatures) × (m ≤ mostDependencies) × SlotsBelow (now slots) i m room ⌝ }
-    ensures { λ r. ⌜ r ≡ isSubset (slotSet (now (slots .entry)) i m) (s .words) ⌝ }
+// What is left once position `i` is tested, whose dependencies are its first `m` slots: it is taken out where one of these is no member. A
+// round for each slot, up to the first that is none.
+fn tested(slots: &[u16; SLOTS], i: usize, m: usize, x: Left) -> Left
+    requires { ⌜ (i < mostFeatures) × (m ≤ mostDependencies) ⌝ }
+    ensures { λ r. ⌜ Tested (slotsHeld (now (slots .entry)) i m (x .members .words)) i x r ⌝ }
 {
+    let members = x.members;
+    let needy = x.needy;
     let mut j: usize = 0;
     while j < m {
-        if !positions::member(s, wide(slots[MOST_DEPENDENCIES * i + j])) {
-            return false;
+        if !positions::member(members, wide(slots[MOST_DEPENDENCIES * i + j])) {
+            return Left {
+                members: positions::remove(members, i),
+                needy,
+            };
         }
         j += 1;
     }
-    true
+    Left {
+        members,
+        needy: positions::insert(needy, i),
+    }
 }
 
-// A set without position `i` where that is a member whose first `m` slots are not all members.
-fn kept(slots: &[u16; SLOTS], i: usize, m: usize, s: Set) -> Set
-    requires { ⌜ (i < mostFeatures) × (m ≤ mostDependencies) × SlotsBelow (now slots) i m room ⌝ }
-    ensures { λ r. ⌜ r .words ≡ keptIn (s .words) (slotSet (now (slots .entry)) i m) i ⌝ }
+// The same, where only a member that has dependencies is tested.
+fn tested_member(slots: &[u16; SLOTS], i: usize, m: usize, x: Left) -> Left
+    requires { ⌜ (i < mostFeatures) × (m ≤ mostDependencies) ⌝ }
+    ensures { λ r. ⌜ TestedMember (slotsHeld (now (slots .entry)) i m (x .members .words)) i m x r ⌝ }
 {
     if m == 0 {
-        return s;
+        return x;
     }
-    if !positions::member(s, i) {
-        return s;
+    if !positions::member(x.members, i) {
+        return x;
     }
-    if inside(slots, i, m, s) {
-        return s;
-    }
-    positions::remove(s, i)
+    tested(slots, i, m, x)
 }
 
-// One pass over the first `n` positions from the first to the last: each member that has a dependency outside the set is taken out. `n`
-// rounds, each of at most sixteen slots.
-fn up(slots: &[u16; SLOTS], counts: &[u32; MOST_FEATURES], n: usize, s: Set) -> Set
-    requires { ⌜ (n ≤ mostFeatures) × Counted (now slots) (now counts) n ⌝ }
-    ensures { λ r. ⌜ Passes (slotRow (now (slots .entry)) (now (counts .entry))) n 0 n (s .words) (r .words) ⌝ }
+// The first pass, over the first `n` positions from the first to the last: `n` rounds, each of at most sixteen slots.
+fn first_pass(slots: &[u16; SLOTS], counts: &[u8; MOST_FEATURES], n: usize, s: Set) -> Left
+    requires { ⌜ n ≤ mostFeatures ⌝ }
+    ensures { λ r. ⌜ Passes (slotsIn (now (slots .entry)) (now (counts .entry))) n (s .words) r ⌝ }
 {
-    let mut t = s;
+    let mut x = Left {
+        members: s,
+        needy: positions::empty(),
+    };
     let mut i: usize = 0;
     while i < n {
-        t = kept(slots, i, amount(counts[i]), t);
+        x = tested_member(slots, i, used(counts, i), x);
         i += 1;
     }
-    t
+    x
 }
 
-// The same from the last position to the first, in as many rounds.
-fn down(slots: &[u16; SLOTS], counts: &[u32; MOST_FEATURES], n: usize, s: Set) -> Set
-    requires { ⌜ (n ≤ mostFeatures) × Counted (now slots) (now counts) n ⌝ }
-    ensures { λ r. ⌜ Passes (slotRow (now (slots .entry)) (now (counts .entry))) n 0 n (s .words) (r .words) ⌝ }
+// The highest member of a set; 64 for each word where there is none: one step a word.
+fn highest(s: Set) -> usize
+    ensures { λ r. ⌜ Picks (s .words) r ⌝ }
 {
-    let mut t = s;
-    let mut i = n;
-    while 0 < i {
-        i -= 1;
-        t = kept(slots, i, amount(counts[i]), t);
+    let mut w: usize = WORDS;
+    while 0 < w {
+        w -= 1;
+        let word = s.words[w];
+        if word != 0 {
+            return 64 * w + (63 - u64::leading_zeros(word) as usize);
+        }
     }
-    t
+    64 * WORDS
 }
 
-// The enabled positions below `n`: all at once where all are permitted; else what passes up and down in turn leave, until one takes nothing
-// out. Each pass but the last takes a member out, so there are at most `n + 1` passes of `n` positions, each of at most sixteen slots; a
-// chain of dependencies in one direction falls in the first pass or the second.
-fn sweep(slots: &[u16; SLOTS], counts: &[u32; MOST_FEATURES], n: usize, p: Set) -> Set
-    requires { ⌜ (n ≤ mostFeatures) × Counted (now slots) (now counts) n ⌝ }
-    ensures { λ r. ⌜ Enables (slotRow (now (slots .entry)) (now (counts .entry))) n (p .words) (r .words) ⌝ }
+// The lowest member of a set, or the highest.
+fn outermost(s: Set, lowest: bool) -> usize
+    ensures { λ r. ⌜ Picks (s .words) r ⌝ }
 {
-    let all = positions::below(n);
-    let mut s = positions::intersection(p, all);
-    if positions::subset(all, s) {
-        return s;
+    if lowest {
+        return positions::lowest_outside(s, positions::empty());
     }
+    highest(s)
+}
+
+// A later pass, over what has dependencies, from the lowest or from the highest on: a round for each, of at most sixteen slots.
+fn next_pass(
+    slots: &[u16; SLOTS],
+    counts: &[u8; MOST_FEATURES],
+    n: usize,
+    x: Left,
+    upward: bool,
+) -> Left
+    requires { ⌜ (n ≤ mostFeatures) × Needy (slotsIn (now slots) (now counts)) n (x .members .words) (x .needy .words) ⌝ }
+    ensures { λ r. ⌜ Passes (slotsIn (now (slots .entry)) (now (counts .entry))) n (x .members .words) r ⌝ }
+{
+    let members = x.members;
+    let mut todo = x.needy;
+    let mut y = Left {
+        members,
+        needy: positions::empty(),
+    };
     loop {
-        let t = up(slots, counts, n, s);
-        if positions::subset(s, t) {
-            return t;
+        let i = outermost(todo, upward);
+        if i >= MOST_FEATURES {
+            return y;
         }
-        s = down(slots, counts, n, t);
-        if positions::subset(t, s) {
-            return s;
-        }
+        todo = positions::remove(todo, i);
+        y = tested(slots, i, used(counts, i), y);
     }
+}
+
+// The largest part of a set that is closed under dependencies, among the first `n` positions, of at most 64: what passes up and down in turn
+// leave, until one takes nothing out. Each pass but the last takes a member out, so there are at most 65 passes, the first of `n` positions and
+// each later one of those left that have dependencies, each of at most sixteen slots; a chain of dependencies in one direction falls in the
+// first pass or the second.
+pub fn closed_part(slots: &[u16; SLOTS], counts: &[u8; MOST_FEATURES], n: usize, p: Set) -> Set
+    ensures { λ r. ⌜ r .words ≡ closedPart (now (slots .entry)) (now (counts .entry)) n (p .words) ⌝ }
+{
+    let m = cells::least(n, MOST_FEATURES);
+    let mut old = positions::intersection(p, positions::below(m));
+    let mut x = first_pass(slots, counts, m, old);
+    let mut upward = false;
+    while !positions::subset(old, x.members) {
+        old = x.members;
+        x = next_pass(slots, counts, m, x, upward);
+        upward = !upward;
+    }
+    x.members
 }
 
 // The first `n` rows, each with its own position put in: `n` rounds, each of one row read and one written.
@@ -314,19 +369,23 @@ fn counted(set: Set) -> Enabled
     }
 }
 
-// The enabled set, from record, level and grants alone. The slots are kept, and the record goes on to be examined: what is used once more
-// after a call by value would be copied for it whole.
+// The enabled set, from record, level and grants alone: all at once where all are permitted. The slots are kept, and the record goes on to
+// be examined: what is used once more after a call by value would be copied for it whole.
 pub fn enable(r: Record, level: u32, g: Grants) -> Enabled
     ensures { λ e. ⌜ enabledOutcome e ≡ enableOf r level g ⌝ }
 {
-    let n = cells::least(r.count as usize, MOST_FEATURES);
+    let n = r.count as usize;
     let slots = r.slots;
     let x = permitted::examine(r, level, g);
     let refusal = x.refusal;
     if refusal::number(refusal) != 0 {
         return nobody(refusal);
     }
-    counted(sweep(&slots, &x.counts, n, x.set))
+    let set = x.set;
+    if positions::subset(positions::below(n), set) {
+        return counted(set);
+    }
+    counted(closed_part(&slots, &x.counts, n, set))
 }
 
 // The reach table of a record, which is examined at user level without grants: only number 14 can refuse that.

@@ -64,12 +64,12 @@ pub refused-empty : (n : ℕ) {words : List ℕ} → words ≡ setOf noMembers
     → _≡_ {A = Outcome Seen} (refuse (record { set = words; counts = replicate mostFeatures 0 }) n) (refuse nothingSeen n)
 refused-empty n e = ap (λ (l : List ℕ). refuse (record { set = l; counts = replicate mostFeatures 0 }) n) e
 
--- a record that is examined feature by feature: the first i of them fit, and are seen
+-- a record that is examined feature by feature, at a level no higher than the highest: the first i of them fit, and are seen
 pub record SeenTo (r : Record) (level : ℕ) (g : Grants) (i : ℕ) (set counts : List ℕ) : Type 0 where
   pub within : i ≤ r .count
   pub few : r .count ≤ mostFeatures
   pub fit : every i (featureFits r) ≡ true
-  pub permitted : set ≡ collect setWords i (permittedAt r level g)
+  pub permitted : set ≡ collect setWords i (permittedAt r (min level hypervisor) g)
   pub counted : counts ≡ padded mostFeatures 0 (each i (λ (j : ℕ). dependencyCount (featureAt r j)))
 
 module _ (r : Record) (level : ℕ) (g : Grants) where
@@ -86,20 +86,24 @@ module _ (r : Record) (level : ℕ) (g : Grants) where
 
   pub seen-none : {set counts : List ℕ} → r .count ≤ mostFeatures → set ≡ setOf noMembers → counts ≡ replicate mostFeatures 0 → SeenTo r level g 0 set counts
   unfolding every
-  seen-none h e q = record { within = omega arith; few = h; fit = refl; permitted = none-yet (permittedAt r level g) e; counted = q }
+  seen-none h e q = record { within = omega arith; few = h; fit = refl; permitted = none-yet (permittedAt r (min level hypervisor) g) e; counted = q }
 
   module _ (i : ℕ) {set counts : List ℕ} (s : SeenTo r level g i set counts) where
     pub seen-not : i < r .count → {b : Bool} → b ≡ fitsIn i → b ≡ false → {o : Outcome Seen} → o ≡ refuse nothingSeen 14 → o ≡ examined r level g
     seen-not h e q z = not-well (sym (formed-not r i h (omega (arith, s .few)) e q)) z
 
     pub seen-next : i < r .count → {b on : Bool} {m : ℕ} {new : List ℕ} → b ≡ fitsIn i → b ≡ true → m ≡ dependencyCount (featureAt r i)
-        → on ≡ isPermitted (featureAt r i) level g i → new ≡ cond on (withMember set i) set → SeenTo r level g (i + 1) new (store counts i m)
-    seen-next h e q k on n =
+        → {known : ℕ} → known ≡ min level hypervisor → on ≡ isPermitted (featureAt r i) known g i → new ≡ cond on (withMember set i) set
+        → SeenTo r level g (i + 1) new (store counts i m)
+    seen-next h e q k l on n =
         record {
           within = omega arith;
           few = s .few;
           fit = formed-next r i (s .fit) (omega (arith, s .few)) e q;
-          permitted = n ∙ next (permittedAt r level g) i (s .permitted) (omega (arith, s .few)) on;
+          permitted =
+              n
+              ∙ next (permittedAt r (min level hypervisor) g) i (s .permitted) (omega (arith, s .few))
+              (on ∙ ap (λ (x : ℕ). isPermitted (featureAt r i) x g i) l);
           counted =
               ap₂ (λ (l : List ℕ) (x : ℕ). store l i x) (s .counted) k
               ∙ padded-each mostFeatures 0 (λ (j : ℕ). dependencyCount (featureAt r j)) i (omega (arith, s .few));
@@ -117,7 +121,9 @@ module _ (r : Record) (level : ℕ) (g : Grants) where
       unfolding examined dependencyCounts
       seen-all h =
           let n : i ≡ min (r .count) mostFeatures = omega (arith, s .few, s .within) in
-          ap₂ (λ (x y : List ℕ). answer (record { set = x; counts = y })) (set-is-permitted r level g (s .permitted) n)
+          let at : min level hypervisor ≡ level = omega arith in
+          ap₂ (λ (x y : List ℕ). answer (record { set = x; counts = y }))
+          (set-is-permitted r (min level hypervisor) g (s .permitted) n ∙ ap (λ (x : ℕ). permittedSet r x g) at)
           (s .counted ∙ ap (λ (m : ℕ). padded mostFeatures 0 (each m (λ (j : ℕ). dependencyCount (featureAt r j)))) n)
           ∙ asked-answered r level nothingSeen _ (all-good r level all-fit h) refl
 

@@ -4,43 +4,63 @@ use mathlib.Core.Path.{_≡_, refl, sym, ap, _∙_}
 use mathlib.Core.Bool.{Bool, true, false, _&&_, _||_, cond}
 use mathlib.Core.List.{List}
 use native.Mathlib.Numerals.{add-one}
-use borrow.Author.Tests.{le-leb, lt-leb}
+use native.Mathlib.Omega.{arith}
+use borrow.Author.Tests.{le-leb, lt-leb, leb-true, not-true}
+use lib.Dec.{leb}
+use Rattle.positions.proofs.BelowLaws.{no-way, and-left, and-right}
 use Rattle.positions.specs.Bits.{bit}
 use Rattle.positions.specs.Sets.{setWords, room, has, collect, setOf, noMembers, withMember}
 use Rattle.positions.proofs.SetLaws.{collect-more}
 use Rattle.positions.proofs.MemberLaws.{insert-collect}
 use Rattle.positions.proofs.SetCodeLaws.{zero-words}
-use Rattle.record.specs.Cells.{cell}
-use Rattle.record.specs.Record.{mostFeatures}
+use Rattle.record.specs.Cells.{bitOf, held, whenGiven, cell, lowBit}
+use Rattle.record.specs.Record.{mostFeatures, highestBit}
+use Rattle.record.specs.WellFormed.{bitFits, bitsFit}
 use Rattle.record.specs.declared.Record.{Record}
 use Rattle.record.specs.declared.Feature.{Feature}
-use Rattle.record.specs.declared.Property.the-variants.{UsablePrivilege, HvSupport, OsSupport, HfscrBitNr, FscrBitNr}
+use Rattle.record.specs.declared.Property.the-variants.{UsablePrivilege, HvSupport, OsSupport, HfscrBitNr, FscrBitNr, HwcapBitNr}
 use Rattle.record.specs.declared.Cell.{Cell}
-use Rattle.record.specs.declared.Cell.the-variants.{Given}
-use Rattle.permitted.specs.Permitted.{system, hypervisor, isUsable, isGranted, byRegister, isSupported, isSupportedBelow, isPermitted, permittedAt, permittedSet}
+use Rattle.record.specs.declared.Cell.the-variants.{Absent, Given}
+use Rattle.permitted.specs.Permitted.{system, hypervisor, isUsable, byRegister, isSupported, isSupportedBelow, isPermitted, permittedAt, permittedSet}
 use Rattle.permitted.specs.declared.Grants.{Grants}
 
 pub or-true : (b : Bool) → b || true ≡ true
 or-true true = refl
 or-true false = refl
 
--- the bit of a register: bit 0 of the support clear, or what is granted
-module _ (s : ℕ) (number : Cell) (mask : ℕ) where
-  pub not-by-register : bit s 0 ≡ false → false ≡ byRegister s number mask
+-- the support that is given: bit 0 of it and the register's bit, and else own code
+module _ (support : Cell) (s number mask : ℕ) (own : Bool) (given : support ≡ Given s) where
+  pub bit-clear : bit s 0 ≡ false → own ≡ isSupported support (Given number) mask own
   unfolding byRegister
-  not-by-register b = rw b
+  bit-clear e = rw (given, e)
 
-  pub by-register : {granted : Bool} → bit s 0 ≡ true → granted ≡ isGranted mask number → granted ≡ byRegister s number mask
+  pub register-permits : bit s 0 ≡ true → bit mask number ≡ true → true ≡ isSupported support (Given number) mask own
   unfolding byRegister
-  by-register b e = rw b e
+  register-permits e q = rw (given, e, q)
 
--- the support that is given: by the register, or own code decides
-module _ (support : Cell) (s : ℕ) (number : Cell) (mask : ℕ) (own : Bool) (given : support ≡ Given s) where
-  pub register-permits : {b : Bool} → b ≡ byRegister s number mask → b ≡ true → true ≡ isSupported support number mask own
-  register-permits e q = rw (given, sym e ∙ q)
+  pub own-code-decides : bit s 0 ≡ true → bit mask number ≡ false → own ≡ isSupported support (Given number) mask own
+  unfolding byRegister
+  own-code-decides e q = rw (given, e, q)
 
-  pub own-code-decides : {b : Bool} → b ≡ byRegister s number mask → b ≡ false → own ≡ isSupported support number mask own
-  own-code-decides e q = rw (given, sym e ∙ q)
+pub low-bit : {support : Cell} {s : ℕ} → support ≡ Given s → bit s 0 ≡ true → lowBit support ≡ true
+low-bit e q = rw (e, q)
+
+-- a number that fits is below 64 where it is required, and its being given makes no difference
+number-fits : (required given : Bool) (n : ℕ) → bitFits required (whenGiven given n) ≡ true → required ≡ true → n < 64
+number-fits required true n e q = let h = leb-true n highestBit e in omega arith
+number-fits true false n e q = no-way false e refl
+number-fits false false n e q = no-way false q refl
+
+register-same : (s : ℕ) (given : Bool) (n mask : ℕ) → bitFits (bit s 0) (whenGiven given n) ≡ true
+    → byRegister s (Given n) mask ≡ byRegister s (whenGiven given n) mask
+unfolding byRegister
+register-same s true n mask e = refl
+register-same s false n mask e = rw (not-true (bit s 0) e)
+
+supported-same : (support : Cell) (given : Bool) (n mask : ℕ) (own : Bool) → bitFits (lowBit support) (whenGiven given n) ≡ true
+    → isSupported support (Given n) mask own ≡ isSupported support (whenGiven given n) mask own
+supported-same Absent given n mask own e = refl
+supported-same (Given s) given n mask own e = ap (λ (b : Bool). b || own) (register-same s given n mask e)
 
 -- support is asked below the level that gives it
 module _ (upper level : ℕ) (support number : Cell) (mask : ℕ) (own : Bool) where
@@ -56,9 +76,49 @@ module _ (upper level : ℕ) (support number : Cell) (mask : ℕ) (own : Bool) w
 pub usable-by : (level : ℕ) {u : Bool} {a x : Cell} → u ≡ isUsable a level → a ≡ x → u ≡ isUsable x level
 usable-by level e p = e ∙ ap (λ (y : Cell). isUsable y level) p
 
-pub supported-by : (upper level mask : ℕ) (own : Bool) {u : Bool} {a b x y : Cell} → u ≡ isSupportedBelow upper level a b mask own → a ≡ x → b ≡ y
-    → u ≡ isSupportedBelow upper level x y mask own
-supported-by upper level mask own e p q = e ∙ (λ i. isSupportedBelow upper level (p i) (q i) mask own)
+-- the two registers' numbers of a feature whose bit numbers fit
+module _ (f : Feature) (fits : bitsFit f ≡ true) where
+  abbrev hv : Bool
+  hv = bitFits (lowBit (cell f HvSupport)) (cell f HfscrBitNr)
+
+  abbrev os : Bool
+  os = bitFits (lowBit (cell f OsSupport)) (cell f FscrBitNr)
+
+  abbrev hwcap : Bool
+  hwcap = bitFits (lowBit (cell f UsablePrivilege)) (cell f HwcapBitNr)
+
+  hv-fits : hv ≡ true
+  unfolding bitsFit
+  hv-fits = and-left hv os (and-left (hv && os) hwcap fits)
+
+  os-fits : os ≡ true
+  unfolding bitsFit
+  os-fits = and-right hv os (and-left (hv && os) hwcap fits)
+
+  pub hv-number : {a : Cell} → a ≡ cell f HvSupport → lowBit a ≡ true → f .«hfscr_bit_nr» < 64
+  unfolding cell held bitOf
+  hv-number e q = number-fits _ (bit (f .given) 4) _ hv-fits (ap lowBit (sym e) ∙ q)
+
+  pub os-number : {a : Cell} → a ≡ cell f OsSupport → lowBit a ≡ true → f .«fscr_bit_nr» < 64
+  unfolding cell held bitOf
+  os-number e q = number-fits _ (bit (f .given) 5) _ os-fits (ap lowBit (sym e) ∙ q)
+
+  module _ (upper level mask : ℕ) (own : Bool) {u : Bool} {a : Cell} where
+    pub hv-supported : u ≡ isSupportedBelow upper level a (Given (f .«hfscr_bit_nr»)) mask own → a ≡ cell f HvSupport
+        → u ≡ isSupportedBelow upper level (cell f HvSupport) (cell f HfscrBitNr) mask own
+    unfolding isSupportedBelow cell held bitOf
+    hv-supported q e =
+        q
+        ∙ ap (λ (x : Cell). leb upper level || isSupported x (Given (f .«hfscr_bit_nr»)) mask own) e
+        ∙ ap (λ (b : Bool). leb upper level || b) (supported-same (cell f HvSupport) (bit (f .given) 4) (f .«hfscr_bit_nr») mask own hv-fits)
+
+    pub os-supported : u ≡ isSupportedBelow upper level a (Given (f .«fscr_bit_nr»)) mask own → a ≡ cell f OsSupport
+        → u ≡ isSupportedBelow upper level (cell f OsSupport) (cell f FscrBitNr) mask own
+    unfolding isSupportedBelow cell held bitOf
+    os-supported q e =
+        q
+        ∙ ap (λ (x : Cell). leb upper level || isSupported x (Given (f .«fscr_bit_nr»)) mask own) e
+        ∙ ap (λ (b : Bool). leb upper level || b) (supported-same (cell f OsSupport) (bit (f .given) 5) (f .«fscr_bit_nr») mask own os-fits)
 
 -- the first test that fails decides; the last one where the others hold
 module _ (f : Feature) (level : ℕ) (g : Grants) (i : ℕ) where

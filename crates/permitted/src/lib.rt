@@ -7,10 +7,15 @@ use record::Property;
 use record::Record;
 use refusal::Refusal;
 ghost use mathlib.Core.Path.{_≡_};
-ghost use mathlib.Core.Bool.{cond};
+ghost use mathlib.Core.Bool.{true, cond};
+ghost use Prim.Native.Nat.{_≤_, _<_, min};
 ghost use Rattle.refusal.specs.Refusal.{numberOf, refuse};
-ghost use Rattle.positions.specs.Sets.{has, withMember};
-ghost use Rattle.permitted.specs.Permitted.{isUsable, isGranted, byRegister, isSupported, isSupportedBelow, isPermitted};
+ghost use Rattle.positions.specs.Bits.{bit};
+ghost use Rattle.positions.specs.Sets.{room, has, withMember};
+ghost use Rattle.record.specs.Cells.{lowBit};
+ghost use Rattle.record.specs.WellFormed.{bitsFit};
+ghost use Rattle.record.specs.declared.Cell.the-variants.{Given};
+ghost use Rattle.permitted.specs.Permitted.{hypervisor, isUsable, isSupported, isSupportedBelow, isPermitted};
 ghost use Rattle.permitted.specs.Asked.{nothingSeen, examined, examinedOutcome, permitted as permittedOf, permittedOutcome};
 
 pub const USER: u32 = 0;
@@ -40,45 +45,40 @@ pub struct PermittedFeatures {
 pub struct Examined {
     pub refusal: Refusal,
     pub set: Set,
-    pub counts: [u32; MOST_FEATURES],
+    pub counts: [u8; MOST_FEATURES],
+}
+
+// Whether a bit of a word is set.
+fn bit_of(word: u64, number: u32) -> bool
+    requires { ⌜ number < 64 ⌝ }
+    ensures { λ r. ⌜ r ≡ bit word number ⌝ }
+{
+    (word >> number) % 2 != 0
 }
 
 fn is_usable(c: Cell, level: u32) -> bool
+    requires { ⌜ level ≤ hypervisor ⌝ }
     ensures { λ r. ⌜ r ≡ isUsable c level ⌝ }
 {
     match c {
         Cell::Absent => false,
-        Cell::Given(privilege) => positions::bit_set(privilege as u64, level),
+        Cell::Given(privilege) => bit_of(privilege as u64, level),
     }
 }
 
-fn is_granted(mask: u64, number: Cell) -> bool
-    ensures { λ r. ⌜ r ≡ isGranted mask number ⌝ }
-{
-    match number {
-        Cell::Absent => false,
-        Cell::Given(n) => positions::bit_set(mask, n),
-    }
-}
-
-// Whether the bit of a register permits a feature: bit 0 of its support is set, and its bit granted.
-fn by_register(support: u32, number: Cell, mask: u64) -> bool
-    ensures { λ r. ⌜ r ≡ byRegister support number mask ⌝ }
-{
-    if !positions::bit_set(support as u64, 0) {
-        return false;
-    }
-    is_granted(mask, number)
-}
-
-// Whether a level's support permits the feature at position `i`: absent, or granted, or by the level's own code.
-fn is_supported(support: Cell, number: Cell, mask: u64, own: Set, i: usize) -> bool
-    ensures { λ r. ⌜ r ≡ isSupported support number mask (has (own .words) i) ⌝ }
+// Whether a level's support permits the feature at position `i`: absent, or granted, or by the level's own code. The number of the
+// register's bit is looked at only where bit 0 of the support is set.
+fn is_supported(support: Cell, number: u32, mask: u64, own: Set, i: usize) -> bool
+    requires { ⌜ (lowBit support ≡ true → number < 64) ⌝ }
+    ensures { λ r. ⌜ r ≡ isSupported support (Given number) mask (has (own .words) i) ⌝ }
 {
     match support {
         Cell::Absent => true,
         Cell::Given(s) => {
-            if by_register(s, number, mask) {
+            if !positions::bit_set(s as u64, 0) {
+                return positions::member(own, i);
+            }
+            if bit_of(mask, number) {
                 return true;
             }
             positions::member(own, i)
@@ -91,12 +91,13 @@ fn is_supported_below(
     upper: u32,
     level: u32,
     support: Cell,
-    number: Cell,
+    number: u32,
     mask: u64,
     own: Set,
     i: usize,
 ) -> bool
-    ensures { λ r. ⌜ r ≡ isSupportedBelow upper level support number mask (has (own .words) i) ⌝ }
+    requires { ⌜ (lowBit support ≡ true → number < 64) ⌝ }
+    ensures { λ r. ⌜ r ≡ isSupportedBelow upper level support (Given number) mask (has (own .words) i) ⌝ }
 {
     if upper <= level {
         return true;
@@ -104,8 +105,9 @@ fn is_supported_below(
     is_supported(support, number, mask, own, i)
 }
 
-// Whether the feature at position `i` is permitted.
-pub fn is_permitted(f: Feature, level: u32, g: Grants, i: usize) -> bool
+// Whether the feature at position `i` is permitted, if its bit numbers fit: they are then given where they are looked at.
+fn is_permitted(f: Feature, level: u32, g: Grants, i: usize) -> bool
+    requires { ⌜ (level ≤ hypervisor) × (bitsFit f ≡ true) ⌝ }
     ensures { λ r. ⌜ r ≡ isPermitted f level g i ⌝ }
 {
     if !is_usable(record::cell_of(f, Property::UsablePrivilege), level) {
@@ -115,7 +117,7 @@ pub fn is_permitted(f: Feature, level: u32, g: Grants, i: usize) -> bool
         HYPERVISOR,
         level,
         record::cell_of(f, Property::HvSupport),
-        record::cell_of(f, Property::HfscrBitNr),
+        f.hfscr_bit_nr,
         g.hfscr,
         g.hypervisor,
         i,
@@ -126,11 +128,22 @@ pub fn is_permitted(f: Feature, level: u32, g: Grants, i: usize) -> bool
         SYSTEM,
         level,
         record::cell_of(f, Property::OsSupport),
-        record::cell_of(f, Property::FscrBitNr),
+        f.fscr_bit_nr,
         g.fscr,
         g.system,
         i,
     )
+}
+
+// The level, or the highest where it is none.
+fn known_level(level: u32) -> u32
+    ensures { λ r. ⌜ r ≡ min level hypervisor ⌝ }
+{
+    if level < HYPERVISOR {
+        level
+    } else {
+        HYPERVISOR
+    }
 }
 
 // A set with a position, where it is to have it.
@@ -154,7 +167,7 @@ fn refused(refusal: Refusal) -> Examined
 }
 
 // What every call asks of a record, a level and grants: 14, then 15; then the permitted set, and how many dependencies each feature has.
-// The record is passed over once: two tests a feature.
+// The record is passed over once: two tests a feature, at a known level.
 pub fn examine(r: Record, level: u32, g: Grants) -> Examined
     ensures { λ x. ⌜ examinedOutcome x ≡ examined r level g ⌝ }
 {
@@ -163,16 +176,17 @@ pub fn examine(r: Record, level: u32, g: Grants) -> Examined
     if MOST_FEATURES < n {
         return refused(Refusal::RecordForm);
     }
+    let asked = known_level(level);
     let mut set = positions::empty();
-    let mut counts: [u32; MOST_FEATURES] = [0; MOST_FEATURES];
+    let mut counts: [u8; MOST_FEATURES] = [0; MOST_FEATURES];
     let mut i: usize = 0;
     while i < n {
         let f = r.features[i];
         if !record::feature_fits(f, &r.slots, count, i) {
             return refused(Refusal::RecordForm);
         }
-        counts[i] = record::dependency_count(f);
-        set = with_permitted(set, is_permitted(f, level, g, i), i);
+        counts[i] = record::dependency_count(f) as u8;
+        set = with_permitted(set, is_permitted(f, asked, g, i), i);
         i += 1;
     }
     if HYPERVISOR < level {

@@ -5,11 +5,11 @@ use mathlib.Core.Bool.{Bool, true, false, _&&_}
 use mathlib.Core.List.{List}
 use native.Mathlib.Omega.{arith}
 use borrow.Author.Count.{below-more}
-use borrow.Author.Tests.{le-leb, lt-leb, lt-ltb, le-ltb}
-use lib.Dec.{leb}
+use borrow.Author.Tests.{le-leb, lt-leb, lt-ltb, le-ltb, leb-true}
+use lib.Dec.{leb, ltb}
 use lib.ListN.{getD}
 use Rattle.positions.specs.Below.{every}
-use Rattle.positions.proofs.BelowLaws.{and-false, every-not, every-more, every-of}
+use Rattle.positions.proofs.BelowLaws.{and-left, and-right, and-false, every-not, every-more, every-of}
 use Rattle.record.specs.Record.{mostFeatures, mostDependencies, featureAt}
 use Rattle.record.specs.Cells.{dependencyCount}
 use Rattle.record.specs.WellFormed.{bitsFit, dependenciesFit, featureFits, wellFormed}
@@ -59,6 +59,21 @@ module _ (slots : List ℕ) (count i : ℕ) where
     pub fits-slots : {b : Bool} {n : ℕ} → i < mostFeatures → bitsFit f ≡ true → b ≡ slotsFit slots count i n → n ≡ dependencyCount f → b ≡ fitsAt f slots count i
     unfolding fitsAt
     fits-slots h b e q = rw (lt-ltb i mostFeatures h, b, ← q) e
+
+    -- what a feature that fits tells
+    module _ {b : Bool} (e : b ≡ fitsAt f slots count i) (q : b ≡ true) where
+      both : bitsFit f && slotsFit slots count i (dependencyCount f) ≡ true
+      unfolding fitsAt
+      both = and-right (ltb i mostFeatures) _ (sym e ∙ q)
+
+      pub fits-bits : bitsFit f ≡ true
+      fits-bits = and-left (bitsFit f) _ both
+
+      pub fits-few : dependencyCount f ≤ mostDependencies
+      unfolding slotsFit
+      fits-few =
+          leb-true (dependencyCount f) mostDependencies
+          (and-left (leb (dependencyCount f) mostDependencies) _ (and-right (bitsFit f) _ both))
 
 -- the largest of the slots passed
 pub record LargestTo (slots : List ℕ) (i most j : ℕ) : Type 0 where

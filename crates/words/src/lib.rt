@@ -110,13 +110,14 @@ fn refused(refusal: Refusal) -> FeatureWords
 pub fn words(r: Record, level: u32, g: Grants) -> FeatureWords
     ensures { λ w. ⌜ wordsOutcome w ≡ wordsAnswer r level g ⌝ }
 {
-    let e = enabled::enable(r, level, g);
-    let refusal = e.refusal;
+    let n = r.count as usize;
+    let slots = r.slots;
+    let x = permitted::examine(r, level, g);
+    let refusal = x.refusal;
     if refusal::number(refusal) != 0 {
         return refused(refusal);
     }
-    let set = e.set;
-    let n = r.count as usize;
+    let set = enabled::closed_part(&slots, &x.counts, n, x.set);
     let mut hwcap: u64 = 0;
     let mut hfscr: u64 = 0;
     let mut fscr: u64 = 0;

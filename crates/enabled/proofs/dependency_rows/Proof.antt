@@ -1,9 +1,8 @@
 -- `enabled::dependency_rows` meets its contract. The loop: the rows passed are those of the slots. Assumes nothing.
-use Prim.Native.Nat.{ℕ, _-_, _≤_, min}
-use mathlib.Core.Path.{_≡_, ap, _∙_}
+use Prim.Native.Nat.{_-_, _≤_}
+use mathlib.Core.Path.{_≡_, _∙_}
 use borrow.Author.Needs.{needs}
 use native.Mathlib.Omega.{arith}
-use Rattle.record.specs.Record.{mostDependencies}
 use Rattle.enabled.specs.Tables.{tableOf}
 use Rattle.enabled.proofs.TableLaws.{zero-table, table-more}
 use Rattle.enabled.proofs.DependencyLaws.{inSlots, slots-row, rows-all}
@@ -22,20 +21,11 @@ least-requires c κs = search needs
 loop-holds : tie.Need-loop-holds Inv-loop μ-loop
 loop-holds c = (omega arith, zero-table _)
 
-mul-amount : tie.Need-mul-amount Inv-loop μ-loop
-mul-amount c = search needs
-
-element-copy-out-amount : tie.Need-element-copy-out-amount Inv-loop μ-loop
-element-copy-out-amount c = search needs
-
-amount-requires : tie.Need-amount-requires Inv-loop μ-loop
-amount-requires c κs = search needs
-
-least-requires-2 : tie.Need-least-requires-2 Inv-loop μ-loop
-least-requires-2 c κs = search needs
+used-requires : tie.Need-used-requires Inv-loop μ-loop
+used-requires c κs = omega arith
 
 dependencies-requires : tie.Need-dependencies-requires Inv-loop μ-loop
-dependencies-requires c κs = (omega arith, omega arith)
+dependencies-requires c κs = (omega arith, omega (arith, c .used .ensures))
 
 put-row-requires : tie.Need-put-row-requires Inv-loop μ-loop
 put-row-requires c κs = search needs
@@ -48,10 +38,8 @@ loop-less c = omega arith
 
 loop-again : tie.Need-loop-again Inv-loop μ-loop
 loop-again c =
-    let read = c .before .before .before in
-    let few = read .least2 .ensures ∙ ap (λ (k : ℕ). min k mostDependencies) (read .before .amount .ensures) in
-    let rows = read .before .before .before .before .loop .inv .1 in
-    (omega arith, c .put-row .ensures ∙ table-more _ _ _ _ rows (c .before .dependencies .ensures ∙ slots-row _ _ _ few) (omega arith))
+    let rows = c .before .before .before .before .before .loop .inv .1 in
+    (omega arith, c .put-row .ensures ∙ table-more _ _ _ _ rows (c .before .dependencies .ensures ∙ slots-row _ _ _ (c .before .before .used .ensures)) (omega arith))
 
 returns : tie.Need-returns Inv-loop μ-loop
 returns c = rows-all _ _ _ _ _ (c .before .loop .inv .1) (omega arith)
@@ -64,10 +52,7 @@ dependency-rows-spec =
     μ-loop
     least-requires
     loop-holds
-    mul-amount
-    element-copy-out-amount
-    amount-requires
-    least-requires-2
+    used-requires
     dependencies-requires
     put-row-requires
     add-i

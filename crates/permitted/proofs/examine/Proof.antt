@@ -4,15 +4,16 @@ use mathlib.Core.Path.{refl}
 use native.Mathlib.Omega.{arith}
 use borrow.Author.Needs.{needs}
 use borrow.Author.Tests.{not-true, not-false}
+use Rattle.record.proofs.FormedLaws.{fits-bits, fits-few}
 use Rattle.permitted.proofs.AskedLaws.{SeenTo, many-seen, seen-none, seen-not, seen-next, seen-level, seen-all}
 use Rattle.permitted.proofs.examine.Statement.{statement}
 use Rattle.permitted.proofs.examine.Tie as tie
 
 abbrev Inv-loop : tie.InvT-loop
-Inv-loop level g r count n set₀ counts₀ i₀ set counts i = SeenTo r level g i (set .words) counts
+Inv-loop level g r count n asked set₀ counts₀ i₀ set counts i = SeenTo r level g i (set .words) counts
 
 abbrev μ-loop : tie.MeasureT-loop
-μ-loop level g r count n set₀ counts₀ i₀ set counts i = r .count - i
+μ-loop level g r count n asked set₀ counts₀ i₀ set counts i = r .count - i
 
 cast-n : tie.Need-cast-n Inv-loop μ-loop
 cast-n c = search needs
@@ -22,6 +23,9 @@ refused-requires c κs = search needs
 
 returns : tie.Need-returns Inv-loop μ-loop
 returns c = many-seen _ _ _ (c .before .if1 .taken) (c .refused .ensures)
+
+known-level-requires : tie.Need-known-level-requires Inv-loop μ-loop
+known-level-requires c κs = search needs
 
 empty-requires : tie.Need-empty-requires Inv-loop μ-loop
 empty-requires c κs = search needs
@@ -42,19 +46,23 @@ refused-requires-2 : tie.Need-refused-requires-2 Inv-loop μ-loop
 refused-requires-2 c κs = search needs
 
 returns-2 : tie.Need-returns-2 Inv-loop μ-loop
-returns-2 c = seen-not (c .before .before .before .before .before .before .before .before .before .before .args .t1) _ _ (c .before .before .before .before .before .before .before .loop .i) (c .before .before .before .before .before .before .before .loop .inv) (omega arith) (c .before .before .feature-fits .ensures) (not-true _ (c .before .if2 .taken)) (c .refused2 .ensures)
+returns-2 c =
+    seen-not (c .before .before .before .before .before .before .before .before .before .before .before .args .t1) _ _ (c .before .before .before .before .before .before .before .loop .i) (c .before .before .before .before .before .before .before .loop .inv) (omega arith) (c .before .before .feature-fits .ensures)
+    (not-true _ (c .before .if2 .taken)) (c .refused2 .ensures)
 
 dependency-count-requires : tie.Need-dependency-count-requires Inv-loop μ-loop
 dependency-count-requires c κs = search needs
 
-mul-counts : tie.Need-mul-counts Inv-loop μ-loop
-mul-counts c = search needs
+cast-counts : tie.Need-cast-counts Inv-loop μ-loop
+cast-counts c =
+    let few = fits-few _ _ _ _ (c .before .before .feature-fits .ensures) (not-false _ (c .before .if2 .left)) in
+    omega (arith, c .dependency-count .ensures)
 
 array-write-counts : tie.Need-array-write-counts Inv-loop μ-loop
 array-write-counts c = search needs
 
 is-permitted-requires : tie.Need-is-permitted-requires Inv-loop μ-loop
-is-permitted-requires c κs = search needs
+is-permitted-requires c κs = (omega (arith, c .before .before .before .before .before .before .before .before .before .known-level .ensures), fits-bits _ _ _ _ (c .before .before .feature-fits .ensures) (not-false _ (c .before .if2 .left)))
 
 with-permitted-requires : tie.Need-with-permitted-requires Inv-loop μ-loop
 with-permitted-requires c κs = search needs
@@ -67,8 +75,9 @@ loop-less c = omega arith
 
 loop-again : tie.Need-loop-again Inv-loop μ-loop
 loop-again c =
-    seen-next (c .before .before .before .before .before .before .before .before .before .before .before .before .args .t1) _ _ _ (c .before .before .before .before .before .before .before .before .before .loop .inv) (omega arith) (c .before .before .before .before .feature-fits .ensures) (not-false _ (c .before .before .before .if2 .left)) (c .before .before .dependency-count .ensures)
-    (c .before .is-permitted .ensures) (c .with-permitted .ensures)
+    seen-next (c .before .before .before .before .before .before .before .before .before .before .before .before .before .args .t1) _ _ (c .before .before .before .before .before .before .before .before .before .loop .i) (c .before .before .before .before .before .before .before .before .before .loop .inv) (omega arith) (c .before .before .before .before .feature-fits .ensures)
+    (not-false _ (c .before .before .before .if2 .left)) (c .before .before .dependency-count .ensures) (c .before .before .before .before .before .before .before .before .before .before .before .known-level .ensures) (c .before .is-permitted .ensures)
+    (c .with-permitted .ensures)
 
 refused-requires-3 : tie.Need-refused-requires-3 Inv-loop μ-loop
 refused-requires-3 c κs = search needs
@@ -88,6 +97,7 @@ examine-spec =
     cast-n
     refused-requires
     returns
+    known-level-requires
     empty-requires
     loop-holds
     mul-f
@@ -96,7 +106,7 @@ examine-spec =
     refused-requires-2
     returns-2
     dependency-count-requires
-    mul-counts
+    cast-counts
     array-write-counts
     is-permitted-requires
     with-permitted-requires

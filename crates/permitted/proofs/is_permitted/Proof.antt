@@ -1,7 +1,7 @@
 -- `permitted::is_permitted` meets its contract: privilege, the hypervisor's support, the system's. Assumes nothing.
 use mathlib.Core.Path.{sym, _∙_}
 use borrow.Author.Tests.{not-true, not-false}
-use Rattle.permitted.proofs.PermittedLaws.{usable-by, supported-by, not-usable, not-supported, system-decides}
+use Rattle.permitted.proofs.PermittedLaws.{usable-by, hv-number, hv-supported, os-number, os-supported, not-usable, not-supported, system-decides}
 use borrow.Author.Needs.{needs}
 use Rattle.permitted.proofs.is_permitted.Statement.{statement}
 use Rattle.permitted.proofs.is_permitted.Tie as tie
@@ -18,36 +18,27 @@ returns c = not-usable _ _ _ _ (sym (usable-by _ (c .before .is-usable .ensures)
 cell-of-requires-2 : tie.Need-cell-of-requires-2
 cell-of-requires-2 c κs = search needs
 
-cell-of-requires-3 : tie.Need-cell-of-requires-3
-cell-of-requires-3 c κs = search needs
-
 is-supported-below-requires : tie.Need-is-supported-below-requires
-is-supported-below-requires c κs = search needs
+is-supported-below-requires c κs = hv-number _ (c .before .before .before .before .pre .1) (c .cell-of2 .ensures)
 
 returns-2 : tie.Need-returns-2
 returns-2 c =
-    let a = c .before .before .before .before in
-    let usable = sym (usable-by _ (a .before .is-usable .ensures) (a .before .before .cell-of .ensures)) ∙ not-false _ (a .if1 .left) in
-    let supported = supported-by _ _ _ _ (c .before .is-supported-below .ensures) (c .before .before .before .cell-of2 .ensures) (c .before .before .cell-of3 .ensures) in
+    let usable = sym (usable-by _ (c .before .before .before .before .is-usable .ensures) (c .before .before .before .before .before .cell-of .ensures)) ∙ not-false _ (c .before .before .before .if1 .left) in
+    let supported = hv-supported _ (c .before .before .before .before .before .before .pre .1) _ _ _ _ (c .before .is-supported-below .ensures) (c .before .before .cell-of2 .ensures) in
     not-supported _ _ _ _ usable (sym supported ∙ not-true _ (c .if2 .taken))
 
-cell-of-requires-4 : tie.Need-cell-of-requires-4
-cell-of-requires-4 c κs = search needs
-
-cell-of-requires-5 : tie.Need-cell-of-requires-5
-cell-of-requires-5 c κs = search needs
+cell-of-requires-3 : tie.Need-cell-of-requires-3
+cell-of-requires-3 c κs = search needs
 
 is-supported-below-requires-2 : tie.Need-is-supported-below-requires-2
-is-supported-below-requires-2 c κs = search needs
+is-supported-below-requires-2 c κs = os-number _ (c .before .before .before .before .before .before .before .pre .1) (c .cell-of3 .ensures)
 
 returns-3 : tie.Need-returns-3
 returns-3 c =
-    let b = c .before .before .before in
-    let a = b .before .before .before .before in
-    let usable = sym (usable-by _ (a .before .is-usable .ensures) (a .before .before .cell-of .ensures)) ∙ not-false _ (a .if1 .left) in
-    let supported = supported-by _ _ _ _ (b .before .is-supported-below .ensures) (b .before .before .before .cell-of2 .ensures) (b .before .before .cell-of3 .ensures) in
-    system-decides _ _ _ _ usable (sym supported ∙ not-false _ (b .if2 .left))
-    (supported-by _ _ _ _ (c .is-supported-below2 .ensures) (c .before .before .cell-of4 .ensures) (c .before .cell-of5 .ensures))
+    let usable = sym (usable-by _ (c .before .before .before .before .before .before .is-usable .ensures) (c .before .before .before .before .before .before .before .cell-of .ensures)) ∙ not-false _ (c .before .before .before .before .before .if1 .left) in
+    let supported = hv-supported _ (c .before .before .before .before .before .before .before .before .pre .1) _ _ _ _ (c .before .before .before .is-supported-below .ensures) (c .before .before .before .before .cell-of2 .ensures) in
+    system-decides _ _ _ _ usable (sym supported ∙ not-false _ (c .before .before .if2 .left))
+    (os-supported _ (c .before .before .before .before .before .before .before .before .pre .1) _ _ _ _ (c .is-supported-below2 .ensures) (c .before .cell-of3 .ensures))
 
 pub is-permitted-spec : {M : Type 1} → statement M
 is-permitted-spec =
@@ -57,10 +48,8 @@ is-permitted-spec =
     is-usable-requires
     returns
     cell-of-requires-2
-    cell-of-requires-3
     is-supported-below-requires
     returns-2
-    cell-of-requires-4
-    cell-of-requires-5
+    cell-of-requires-3
     is-supported-below-requires-2
     returns-3)

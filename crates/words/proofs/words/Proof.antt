@@ -10,13 +10,17 @@ use Rattle.words.proofs.words.Statement.{statement}
 use Rattle.words.proofs.words.Tie as tie
 
 abbrev Inv-loop : tie.InvT-loop
-Inv-loop level g r set n hwcap₀ hfscr₀ fscr₀ i₀ hwcap hfscr fscr i = (n ≡ r .count) × (n ≤ mostFeatures) × (i ≤ n) × BitsBelow r (set .words) i hwcap hfscr fscr
+Inv-loop level g r n set hwcap₀ hfscr₀ fscr₀ i₀ hwcap hfscr fscr i =
+    (n ≡ r .count) × (n ≤ mostFeatures) × (i ≤ n) × BitsBelow r (set .words) i hwcap hfscr fscr
 
 abbrev μ-loop : tie.MeasureT-loop
-μ-loop level g r set n hwcap₀ hfscr₀ fscr₀ i₀ hwcap hfscr fscr i = n - i
+μ-loop level g r n set hwcap₀ hfscr₀ fscr₀ i₀ hwcap hfscr fscr i = n - i
 
-enable-requires : tie.Need-enable-requires Inv-loop μ-loop
-enable-requires c κs = search needs
+cast-n : tie.Need-cast-n Inv-loop μ-loop
+cast-n c = search needs
+
+examine-requires : tie.Need-examine-requires Inv-loop μ-loop
+examine-requires c κs = search needs
 
 number-requires : tie.Need-number-requires Inv-loop μ-loop
 number-requires c κs = search needs
@@ -25,16 +29,13 @@ refused-requires : tie.Need-refused-requires Inv-loop μ-loop
 refused-requires c κs = search needs
 
 returns : tie.Need-returns Inv-loop μ-loop
-returns c =
-    c .refused .ensures
-    ∙ words-refused _ _ _ (c .before .before .before .enable .result) (c .before .before .before .enable .ensures) (λ z. c .before .if1 .taken (c .before .before .number .ensures ∙ z))
+returns c = c .refused .ensures ∙ words-refused _ _ _ (c .before .before .before .examine .ensures) (λ z. c .before .if1 .taken (c .before .before .number .ensures ∙ z))
 
-cast-n : tie.Need-cast-n Inv-loop μ-loop
-cast-n c = search needs
+closed-part-requires : tie.Need-closed-part-requires Inv-loop μ-loop
+closed-part-requires c κs = search needs
 
 loop-holds : tie.Need-loop-holds Inv-loop μ-loop
-loop-holds c =
-    (refl, few _ _ _ (c .before .before .before .enable .result) (c .before .before .before .enable .ensures) (sym (c .before .before .number .ensures) ∙ c .before .if1 .left), omega arith, bits-begin _ _)
+loop-holds c = (refl, few _ _ _ (c .before .before .before .before .before .before .before .examine .ensures) (sym (c .before .before .before .before .before .before .number .ensures) ∙ c .before .before .before .before .before .if1 .left), omega arith, bits-begin _ _)
 
 mul-feature-bits : tie.Need-mul-feature-bits Inv-loop μ-loop
 mul-feature-bits c = search needs
@@ -65,7 +66,7 @@ values-of-requires c κs = search needs
 returns-2 : tie.Need-returns-2 Inv-loop μ-loop
 returns-2 c =
     let v = c .before .before .loop .inv in
-    words-answered _ _ _ (c .before .before .before .before .before .before .enable .result) (c .before .before .before .before .before .before .enable .ensures) (sym (c .before .before .before .before .before .number .ensures) ∙ c .before .before .before .before .if1 .left)
+    words-answered _ _ _ (c .before .before .before .before .before .before .before .before .before .before .examine .ensures) (sym (c .before .before .before .before .before .before .before .before .before .number .ensures) ∙ c .before .before .before .before .before .before .before .before .if1 .left) (v .0) (c .before .before .before .closed-part .ensures)
     (c .values-of .ensures ∙ values-are _ _ _ _ (bits-all _ _ (omega (arith, v .0, v .2)) (v .3)))
 
 pub words-spec : {M : Type 1} → statement M
@@ -74,11 +75,12 @@ words-spec =
     (tie.spec
     Inv-loop
     μ-loop
-    enable-requires
+    cast-n
+    examine-requires
     number-requires
     refused-requires
     returns
-    cast-n
+    closed-part-requires
     loop-holds
     mul-feature-bits
     element-copy-out-feature-bits
