@@ -11,7 +11,7 @@ use lib.ListN.{length, take, drop, length-append}
 use Rattle.refusal.specs.Refusal.{numberOf, answer, refuse}
 use Rattle.refusal.specs.declared.Refusal.{Refusal}
 use Rattle.refusal.specs.Checks.{Check, firstFault, faultOf}
-use Rattle.refusal.proofs.Checks.{Stops, Passes, faultAt, holds-on, stops-in, passes-on, stops, passes, Numbered, numbered-both, fault-answers, fault-refuses, tests}
+use Rattle.refusal.proofs.Checks.{Passes, holds-on, passes-on, stops, passes, Numbered, numbered-both, no-fault-passes, fault-some, fault-answers, fault-refuses, tests}
 use Rattle.attributes.specs.Attributes.{lengthAt, typeAt, bytesAt, nextAt, descriptorChecks, checksFrom, ifTypeZero, typeZeroFrom, typeZero, firstOf, typeChecks, attributeChecks, attributeBytes, mostBytes, Located}
 
 abbrev number : ℕ → ℕ
@@ -84,11 +84,15 @@ module _ {value : List ℕ} {found from to at : ℕ} (g : Scan value found from 
       ∙ ap (λ (cs : List (Check ℕ)). faultOf (cs ++ typeChecks value)) (sym (checks-step value at k h))
       ∙ (rw fuel-step at (g .rest))
 
-  pub scan-stops : (j : ℕ) → Stops j (descriptorChecks value at) → faultAt 0 j (descriptorChecks value at) ≡ faultOf (attributeChecks value)
+  pub scan-stops : {n : ℕ} → n ≡ faultOf (descriptorChecks value at) → (n ≡ 0 → ⊥) → n ≡ faultOf (attributeChecks value)
   unfolding faultOf
-  scan-stops j s = sym (stops-in number 0 j (descriptorChecks value at) _ 0 s) ∙ here
+  scan-stops e ne = e ∙ sym (fault-some number (descriptorChecks value at) _ 0 (λ z. ne (e ∙ z))) ∙ here
 
-  module _ (p : Passes (descriptorChecks value at)) where
+  module _ {n : ℕ} (e : n ≡ faultOf (descriptorChecks value at)) (z : n ≡ 0) where
+    p : Passes (descriptorChecks value at)
+    unfolding descriptorChecks
+    p = no-fault-passes (descriptorChecks value at) (omega arith) (sym e ∙ z)
+
     go-on : faultOf (checksFrom k value (nextAt value at) ++ typeChecks value) ≡ faultOf (attributeChecks value)
     unfolding faultOf
     go-on = sym (passes-on number (descriptorChecks value at) _ 0 p) ∙ here
@@ -96,7 +100,7 @@ module _ {value : List ℕ} {found from to at : ℕ} (g : Scan value found from 
     zeros-here : g .zeros ++ ifTypeZero (typeAt value at) (bytesAt value at) (typeZeroFrom k value (nextAt value at)) ≡ typeZero value
     zeros-here = rw (← zeros-step value at k h) (rw fuel-step at (g .list))
 
-    next-inside : nextAt value at ≤ length value
+    pub next-inside : nextAt value at ≤ length value
     unfolding descriptorChecks
     next-inside = leb→le (nextAt value at) (length value) (p .1 .1 .1 .0)
 

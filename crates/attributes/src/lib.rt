@@ -1,10 +1,12 @@
 // `ibm,pa-features`, `ibm,pi-features` and `ibm,extended-bus-frequency`.
 use refusal::Refusal;
 ghost use mathlib.Core.Path.{_≡_};
-ghost use Prim.Native.Nat.{_≤_};
+ghost use Prim.Native.Nat.{_≤_, _<_};
 ghost use lib.ListN.{length};
 ghost use Rattle.refusal.specs.Refusal.{numberOf};
+ghost use Rattle.refusal.specs.Checks.{faultOf};
 ghost use Rattle.attributes.specs.Attributes.{
+  descriptorChecks,
   Located,
   paTable,
   paFeatures,
@@ -70,6 +72,29 @@ fn type_zero_refused(refusal: Refusal) -> TypeZero
     }
 }
 
+// The refusal of the descriptor at a place of the value.
+fn descriptor_refusal(value: &[u8], at: usize) -> Refusal
+    requires { ⌜ at < length (now value) ⌝ }
+    ensures { λ r. ⌜ numberOf r ≡ faultOf (descriptorChecks (now (value .entry)) at) ⌝ }
+{
+    let left = value.len() - at;
+    if left < 2 {
+        return Refusal::PropertyForm;
+    }
+    let length = value[at] as usize;
+    if length == 0 {
+        return Refusal::OutOfRange;
+    }
+    if MOST_BYTES < length {
+        return Refusal::OutOfRange;
+    }
+    if left - 2 < length {
+        return Refusal::PropertyForm;
+    }
+    Refusal::None
+}
+
+// The one descriptor of type 0.
 fn type_zero(value: &[u8]) -> TypeZero
     ensures { λ r. ⌜ Located (now (value .entry)) (numberOf (r .refusal)) (r .from) (r .to) ⌝ }
 {
@@ -81,22 +106,12 @@ fn type_zero(value: &[u8]) -> TypeZero
     let mut to = 0;
     let mut at = 0;
     while at < value.len() {
-        let left = value.len() - at;
-        if left < 2 {
-            return type_zero_refused(Refusal::PropertyForm);
-        }
-        let length = value[at] as usize;
-        if length == 0 {
-            return type_zero_refused(Refusal::OutOfRange);
-        }
-        if MOST_BYTES < length {
-            return type_zero_refused(Refusal::OutOfRange);
-        }
-        if left - 2 < length {
-            return type_zero_refused(Refusal::PropertyForm);
+        let refusal = descriptor_refusal(value, at);
+        if refusal::number(refusal) != 0 {
+            return type_zero_refused(refusal);
         }
         let start = at + 2;
-        let next = start + length;
+        let next = start + value[at] as usize;
         if value[at + 1] == 0 {
             found += 1;
             from = start;
