@@ -12,23 +12,10 @@ mod trees;
 
 use libc::STDIN_FILENO;
 use libc::STDOUT_FILENO;
-use line::Buffer;
-ghost use Prim.Native.Nat.{_<_};
-
-fn wide(x: u8) -> u32
-    ensures { λ r. ⌜ r < 256 ⌝ }
-{
-    x as u32
-}
-
-// The number of four bytes, big-endian.
-fn cell(a: u8, b: u8, c: u8, d: u8) -> u32 {
-    ((wide(a) * 256 + wide(b)) * 256 + wide(c)) * 256 + wide(d)
-}
 
 // The length that the first five bytes of a vector give.
 fn length_of(head: &[u8; 5]) -> usize {
-    cell(head[1], head[2], head[3], head[4]) as usize
+    cells::cell_at(head, 1) as usize
 }
 
 fn bad_vector() -> bool {
@@ -36,25 +23,37 @@ fn bad_vector() -> bool {
     false
 }
 
-// Puts the line of a vector, without its end, and answers how many bytes are put; 0 if it is no vector.
-fn answer(out: &mut Buffer, kind: u8, value: &mut [u8]) -> usize {
+// Puts the line of a vector of unit text, a tree, a lookup or a record; false if it is none.
+fn tree_answer(kind: u8, value: &[u8]) -> bool {
     match kind {
-        b'u' => cpu::unit_read(out, value),
-        b'w' => cpu::unit_written(out, value),
-        b'p' => cpu::page_sizes(out, value),
-        b's' => cpu::segment_sizes(out, value),
-        b'g' => cpu::segment_page_sizes(out, value),
-        b'a' => cpu::pa_features(out, value),
-        b'i' => cpu::pi_features(out, value),
-        b'f' => cpu::bus_frequency(out, value),
-        b't' => trees::tree(out, value),
-        b'l' => trees::property_lookup(out, value),
-        b'r' => records::record(out, value),
-        b'e' => resolver::enabled_sets(out, value),
-        b'n' => resolver::reach_table(out, value),
-        b'b' => resolver::enabled_by_table(out, value),
-        b'c' => resolver::chains(out, value),
-        _ => 0,
+        b'u' => cpu::unit_read(value),
+        b't' => trees::tree(value),
+        b'l' => trees::property_lookup(value),
+        b'r' => records::record(value),
+        b'n' => resolver::reach_table(value),
+        _ => false,
+    }
+}
+
+// Puts the line of a vector whose bytes are only read; false if it is none.
+fn read_answer(kind: u8, value: &[u8]) -> bool {
+    match kind {
+        b'p' => cpu::sizes(kind, sizes::page_sizes(value)),
+        b's' => cpu::sizes(kind, sizes::segment_sizes(value)),
+        b'g' => cpu::segment_page_sizes(value),
+        b'a' => cpu::pa_features(value),
+        b'i' => cpu::pi_features(value),
+        b'f' => cpu::bus_frequency(value),
+        _ => tree_answer(kind, value),
+    }
+}
+
+// Puts the line of a vector, without its end; false if it is no vector.
+fn answer(kind: u8, value: &mut [u8]) -> bool {
+    match kind {
+        b'w' => cpu::unit_written(value),
+        b'e' | b'b' | b'c' => resolver::queries(kind, value),
+        _ => read_answer(kind, value),
     }
 }
 
@@ -63,12 +62,10 @@ fn run_value(kind: u8, value: &mut [u8]) -> bool {
     if io::read_full(STDIN_FILENO, value) < value.len() {
         return bad_vector();
     }
-    let mut out = [0u8; 4096];
-    let used = answer(&mut out, kind, value);
-    if used == 0 {
-        return bad_vector();
+    if answer(kind, value) {
+        return line::end_line();
     }
-    line::end_line(&mut out, used)
+    bad_vector()
 }
 
 // Runs the next vector, whose bytes go into `bytes`, and answers whether to go on.

@@ -33,7 +33,9 @@ struct FeatureRead {
     next: usize,
 }
 
+// A record with a level and grants.
 pub(crate) struct Asked {
+    pub record: Record,
     pub level: u32,
     pub grants: Grants,
     pub next: usize,
@@ -187,8 +189,8 @@ fn set_of(mask: u64) -> Set {
     set
 }
 
-// A level and grants.
-pub(crate) fn asked_at(value: &[u8], from: usize) -> Asked {
+// A level and grants, asked of a record.
+pub(crate) fn asked_at(value: &[u8], from: usize, record: Record) -> Asked {
     let level = number_at(value, from);
     let hypervisor = number_at(value, level.next);
     let system = number_at(value, hypervisor.next);
@@ -201,6 +203,7 @@ pub(crate) fn asked_at(value: &[u8], from: usize) -> Asked {
         fscr: fscr.value,
     };
     Asked {
+        record,
         level: narrow(level.value),
         grants,
         next: fscr.next,

@@ -1,5 +1,4 @@
-// The kind of vectors for feature records: a tree is read, and its record put on one line, from its start.
-use crate::line::Buffer;
+// The kind of vectors for feature records: a tree is read, and its record put on one line.
 use crate::line::put_cells;
 use crate::line::put_number;
 use crate::line::put_start;
@@ -56,42 +55,35 @@ fn is_zero(numbers: &[u32]) -> bool {
 }
 
 // Puts a position with the numbers of its feature and its slots; nothing, if these are all zero.
-fn put_row(
-    out: &mut Buffer,
-    used: usize,
-    position: usize,
-    numbers: &[u32],
-    slots: &[u32],
-) -> usize {
+fn put_row(position: usize, numbers: &[u32], slots: &[u32]) {
     if is_zero(numbers) && is_zero(slots) {
-        return used;
+        return;
     }
-    let start = put_number(out, used, position as u64);
-    let at = put_cells(out, start, numbers);
-    put_cells(out, at, slots)
+    put_number(position as u64);
+    put_cells(numbers);
+    put_cells(slots);
 }
 
 // Puts the rows of all positions.
-fn put_rows(out: &mut Buffer, used: usize, record: Record) -> usize {
-    let mut at = used;
+fn put_rows(record: Record) {
     let mut i: usize = 0;
     while i < MOST_FEATURES {
         let numbers = numbers_of(record.features[i]);
         let slots = slots_of(&record.slots, i);
-        at = put_row(out, at, i, &numbers, &slots);
+        put_row(i, &numbers, &slots);
         i += 1;
     }
-    at
 }
 
 // A whole tree: the refusal, its place, the isa, the count, and the rows.
-pub(crate) fn record(out: &mut Buffer, value: &[u8]) -> usize {
+pub(crate) fn record(value: &[u8]) -> bool {
     let read = reader::read_record(value);
     let refusal = read.refusal;
-    let used = put_start(out, b'r', refusal);
-    let placed = put_number(out, used, read.place as u64);
+    put_start(b'r', refusal);
+    put_number(read.place as u64);
     let record = read.record;
-    let isa = put_number(out, placed, record.isa as u64);
-    let counted = put_number(out, isa, record.count as u64);
-    put_rows(out, counted, record)
+    put_number(record.isa as u64);
+    put_number(record.count as u64);
+    put_rows(record);
+    true
 }

@@ -1,68 +1,86 @@
-// The kinds of vectors for trees and for blocks of properties. Each function puts one line, from its start.
-use crate::cell;
-use crate::line::Buffer;
+// The kinds of vectors for trees and for blocks of properties. Each function puts one line and answers whether the bytes are a vector.
 use crate::line::put_number;
 use crate::line::put_start;
 use lookup::Found;
 
+// The three lengths before the parts of a lookup.
+const LENGTHS: usize = 12;
+
+// Where the CPU node's block of a lookup ends, its parent's, and the strings block.
+struct Ends {
+    cpu: usize,
+    parent: usize,
+    strings: usize,
+}
+
 // A whole tree: the refusal, its place, and the containers.
-pub(crate) fn tree(out: &mut Buffer, value: &[u8]) -> usize {
+pub(crate) fn tree(value: &[u8]) -> bool {
     let checked = walk::check_tree(value);
     let refusal = checked.refusal;
+    put_start(b't', refusal);
+    put_number(checked.place as u64);
     let layout = checked.layout;
     let containers = layout.containers;
-    let used = put_start(out, b't', refusal);
-    let placed = put_number(out, used, checked.place as u64);
-    let counted = put_number(out, placed, containers.count as u64);
-    let first = put_number(out, counted, containers.first as u64);
-    put_number(out, first, containers.second as u64)
+    put_number(containers.count as u64);
+    put_number(containers.first as u64);
+    put_number(containers.second as u64);
+    true
 }
 
-fn put_found(out: &mut Buffer, used: usize, which: u64, from: usize, length: usize) -> usize {
-    let at = put_number(out, used, which);
-    let next = put_number(out, at, from as u64);
-    put_number(out, next, length as u64)
+fn put_found(which: u64, from: usize) {
+    put_number(which);
+    put_number(from as u64);
 }
 
-fn looked_up<'a>(
-    out: &mut Buffer,
-    cpu: &'a [u8],
-    parent: &'a [u8],
-    strings: &[u8],
-    name: &[u8],
-) -> usize {
-    let refusal = lookup::lookup_reason(cpu, parent, strings, name);
-    let part = lookup::property_part(cpu, parent, strings, name);
-    let length = part.len();
-    let used = put_start(out, b'l', refusal);
-    let found = lookup::find_property(cpu, parent, strings, name);
+// The block in which a property is found, and its place there.
+fn put_place(found: Found) {
     match found {
-        Found::InCpu { from, to: _ } => put_found(out, used, 1, from, length),
-        Found::InParent { from, to: _ } => put_found(out, used, 2, from, length),
-        Found::Nowhere => put_found(out, used, 0, 0, length),
+        Found::InCpu { from, to: _ } => put_found(1, from),
+        Found::InParent { from, to: _ } => put_found(2, from),
+        Found::Nowhere => put_found(0, 0),
     }
+}
+
+fn looked_up<'a>(cpu: &'a [u8], parent: &'a [u8], strings: &[u8], name: &[u8]) -> bool {
+    let refusal = lookup::lookup_reason(cpu, parent, strings, name);
+    put_start(b'l', refusal);
+    put_place(lookup::find_property(cpu, parent, strings, name));
+    let part = lookup::property_part(cpu, parent, strings, name);
+    put_number(part.len() as u64);
+    true
+}
+
+fn ends_of(value: &[u8]) -> Ends {
+    let cpu = LENGTHS + cells::cell_at(value, 0) as usize;
+    let parent = cpu + cells::cell_at(value, 4) as usize;
+    let strings = parent + cells::cell_at(value, 8) as usize;
+    Ends {
+        cpu,
+        parent,
+        strings,
+    }
+}
+
+// The bytes from a place to another; none, if these are no places of the vector.
+fn part(value: &[u8], from: usize, to: usize) -> &[u8] {
+    if to < from {
+        return &value[..0];
+    }
+    if value.len() < to {
+        return &value[..0];
+    }
+    &value[from..to]
 }
 
 // A lookup: three lengths, then the CPU node's block, its parent's, the strings block, and the name sought. Fewer bytes are no vector.
-pub(crate) fn property_lookup(out: &mut Buffer, value: &[u8]) -> usize {
-    if value.len() < 12 {
-        return 0;
+pub(crate) fn property_lookup(value: &[u8]) -> bool {
+    let ends = ends_of(value);
+    if value.len() < ends.strings {
+        return false;
     }
-    let cpu = cell(value[0], value[1], value[2], value[3]) as usize;
-    let parent = cell(value[4], value[5], value[6], value[7]) as usize;
-    let strings = cell(value[8], value[9], value[10], value[11]) as usize;
-    let left = value.len() - 12;
-    if left < cpu {
-        return 0;
-    }
-    if left - cpu < parent {
-        return 0;
-    }
-    if left - cpu - parent < strings {
-        return 0;
-    }
-    let a = 12 + cpu;
-    let b = a + parent;
-    let c = b + strings;
-    looked_up(out, &value[12..a], &value[a..b], &value[b..c], &value[c..])
+    let cpu = part(value, LENGTHS, ends.cpu);
+    let parent = part(value, ends.cpu, ends.parent);
+    let strings = part(value, ends.parent, ends.strings);
+    let name = part(value, ends.strings, value.len());
+    looked_up(cpu, parent, strings, name)
 }

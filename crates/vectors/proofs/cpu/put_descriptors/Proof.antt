@@ -5,10 +5,10 @@ use Rattle.vectors.proofs.cpu.put_descriptors.Statement.{statement}
 use Rattle.vectors.proofs.cpu.put_descriptors.Tie as tie
 
 abbrev Inv-loop : tie.InvT-loop
-Inv-loop out₀ used descriptors at₀ i₀ out at i = i ≤ 8
+Inv-loop table i₀ i = i ≤ 8
 
 abbrev μ-loop : tie.MeasureT-loop
-μ-loop out₀ used descriptors at₀ i₀ out at i = 8 - i
+μ-loop table i₀ i = 8 - i
 
 loop-holds : tie.Need-loop-holds Inv-loop μ-loop
 loop-holds c = search needs
@@ -16,8 +16,8 @@ loop-holds c = search needs
 mul-put-descriptor : tie.Need-mul-put-descriptor Inv-loop μ-loop
 mul-put-descriptor c = search needs
 
-array-copy-out-put-descriptor : tie.Need-array-copy-out-put-descriptor Inv-loop μ-loop
-array-copy-out-put-descriptor c = search needs
+element-copy-out-put-descriptor : tie.Need-element-copy-out-put-descriptor Inv-loop μ-loop
+element-copy-out-put-descriptor c = search needs
 
 put-descriptor-requires : tie.Need-put-descriptor-requires Inv-loop μ-loop
 put-descriptor-requires c κs = search needs
@@ -42,7 +42,7 @@ put-descriptors-spec =
     μ-loop
     loop-holds
     mul-put-descriptor
-    array-copy-out-put-descriptor
+    element-copy-out-put-descriptor
     put-descriptor-requires
     add-i
     loop-less

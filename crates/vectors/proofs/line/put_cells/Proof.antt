@@ -1,15 +1,15 @@
 -- `vectors::line::put_cells` is safe and ends. The measure is how many cells are left. Assumes nothing.
 use Prim.Native.Nat.{_≤_, _-_}
-use borrow.Author.Needs.{needs}
 use lib.ListN.{length}
+use borrow.Author.Needs.{needs}
 use Rattle.vectors.proofs.line.put_cells.Statement.{statement}
 use Rattle.vectors.proofs.line.put_cells.Tie as tie
 
 abbrev Inv-loop : tie.InvT-loop
-Inv-loop out₀ used cells at₀ i₀ out at i = i ≤ length cells
+Inv-loop cells i₀ i = i ≤ length cells
 
 abbrev μ-loop : tie.MeasureT-loop
-μ-loop out₀ used cells at₀ i₀ out at i = length cells - i
+μ-loop cells i₀ i = length cells - i
 
 loop-holds : tie.Need-loop-holds Inv-loop μ-loop
 loop-holds c = search needs

@@ -6,10 +6,10 @@ use Rattle.vectors.proofs.line.put_words.Statement.{statement}
 use Rattle.vectors.proofs.line.put_words.Tie as tie
 
 abbrev Inv-loop : tie.InvT-loop
-Inv-loop out₀ used words at₀ i₀ out at i = i ≤ length words
+Inv-loop words i₀ i = i ≤ length words
 
 abbrev μ-loop : tie.MeasureT-loop
-μ-loop out₀ used words at₀ i₀ out at i = length words - i
+μ-loop words i₀ i = length words - i
 
 loop-holds : tie.Need-loop-holds Inv-loop μ-loop
 loop-holds c = search needs

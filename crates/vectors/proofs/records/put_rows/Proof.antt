@@ -5,10 +5,10 @@ use Rattle.vectors.proofs.records.put_rows.Statement.{statement}
 use Rattle.vectors.proofs.records.put_rows.Tie as tie
 
 abbrev Inv-loop : tie.InvT-loop
-Inv-loop out₀ used «record» at₀ i₀ out at i = i ≤ 64
+Inv-loop «record» i₀ i = i ≤ 64
 
 abbrev μ-loop : tie.MeasureT-loop
-μ-loop out₀ used «record» at₀ i₀ out at i = 64 - i
+μ-loop «record» i₀ i = 64 - i
 
 loop-holds : tie.Need-loop-holds Inv-loop μ-loop
 loop-holds c = search needs

@@ -7,13 +7,10 @@ use Rattle.vectors.proofs.resolver.put_chains.Statement.{statement}
 use Rattle.vectors.proofs.resolver.put_chains.Tie as tie
 
 abbrev Inv-loop : tie.InvT-loop
-Inv-loop out₀ used «record» value₀ from asked queries put₀ i₀ out value put i = (length value ≡ length value₀) × (i ≤ queries .value)
+Inv-loop asked value₀ queries at₀ i₀ value at i = (length value ≡ length value₀) × (i ≤ queries .value)
 
 abbrev μ-loop : tie.MeasureT-loop
-μ-loop out₀ used «record» value₀ from asked queries put₀ i₀ out value put i = queries .value - i
-
-asked-at-requires : tie.Need-asked-at-requires Inv-loop μ-loop
-asked-at-requires c κs = search needs
+μ-loop asked value₀ queries at₀ i₀ value at i = queries .value - i
 
 number-at-requires : tie.Need-number-at-requires Inv-loop μ-loop
 number-at-requires c κs = search needs
@@ -45,7 +42,6 @@ put-chains-spec =
     (tie.spec
     Inv-loop
     μ-loop
-    asked-at-requires
     number-at-requires
     loop-holds
     put-chain-at-requires
