@@ -9,7 +9,7 @@ use lib.Seq.{getD-take, getD-drop, getD-at}
 use Rattle.cells.specs.Cells.{cellAt}
 use Rattle.cells.specs.Rows.{each}
 use Rattle.cells.proofs.Rows.{length-each}
-use Rattle.reading.specs.Values.{Value, missing, cellsOf}
+use Rattle.reading.specs.Values.{Value, cellsOf}
 use Rattle.reader.specs.Parts.{Lies, CellsLie}
 
 -- a cell of a part of a tree
@@ -46,6 +46,3 @@ cells-lie {tree} {v} {from} {size} g =
           let m : j < length bs / 4 = omega (arith, count) in
           cell-inside tree from size (4 * j) (omega arith) ∙ sym (each-at (length bs / 4) (λ (j : ℕ). cellAt bs (4 * j)) j m);
     })
-
-pub no-cells : {tree : List ℕ} {v : Value} → v ≡ missing → CellsLie tree (cellsOf v) 0
-no-cells e = rw e (record { within = omega arith; each = λ j l. absurd (omega arith) })

@@ -1,11 +1,11 @@
 -- The slots of one feature's dependencies, cell by cell. Assumes nothing.
 use mathlib.Core.Path.{_≡_, refl, sym, ap, subst⁻¹, _∙_}
-use mathlib.Core.Bool.{true, false, false≢true}
+use mathlib.Core.Bool.{Bool, true, false, false≢true}
 use mathlib.Core.List.{List, [], _∷_, _++_, map, append-nil, append-assoc, map-append}
-use Prim.Native.Nat.{ℕ, suc, _+_, _-_, _*_, _<_, _≤_}
+use Prim.Native.Nat.{ℕ, suc, _+_, _*_, _/_, _<_, _≤_}
 use native.Mathlib.Omega.{arith}
 use native.Mathlib.Numerals.{add-one}
-use lib.ListN.{length, getD, take, drop, set, replicate, length-append, length-set, length-map, length-replicate}
+use lib.ListN.{length, getD, take, drop, set, length-append, length-map}
 use lib.Seq.{length-take-le, take-all, take-suc, split-at}
 use Rattle.cells.specs.Cells.{cellAt}
 use Rattle.cells.specs.Rows.{padded}
@@ -14,10 +14,13 @@ use Rattle.refusal.specs.Refusal.{Fault, fault}
 use Rattle.refusal.specs.Checks.{Check, check}
 use Rattle.record.specs.Record.{slotCount}
 use Rattle.reading.specs.Nodes.{Node}
+use Rattle.reading.specs.Values.{Value, missing, cellsOf}
 use Rattle.reading.specs.Dependencies.{Carrier, nowhere, position, carrier, isSomewhere, slotOf, cellChecks}
 use Rattle.reading.specs.Ends.{AllHold, FirstFailing}
-use Rattle.reader.specs.Parts.{FirstThat, notedAt, ArePhandles, CellsLie, Resolves, ResolvesCells}
+use Rattle.reader.specs.Parts.{Lies, FirstThat, notedAt, ArePhandles, CellsLie, Resolves, ResolvesCells}
 use Rattle.reading.proofs.CheckLaws.{hold-both, fail-left, fail-right, fail-here}
+use Rattle.reader.proofs.CellPlaceLaws.{cells-lie}
+use Rattle.reader.proofs.PropertyLaws.{count as count-of}
 use Rattle.reader.proofs.PhandleLaws.{carrier-there, carrier-nowhere}
 
 -- the checks of cells
@@ -46,34 +49,29 @@ module _ (nodes : List Node) (place : ℕ) where
       (fail-left (check (isSomewhere (carrier nodes p)) (fault 13 place) ∷ []) (cellChecks place nodes qs) here))
 
 -- one more slot
-slot-more : {old slots : List ℕ} (xs ys : List ℕ) (at k : ℕ) → old ≡ padded slotCount 0 xs → slots ≡ padded slotCount 0 (xs ++ ys)
-    → length xs + length ys ≡ at → at < length old → set slots at k ≡ padded slotCount 0 (xs ++ (ys ++ k ∷ []))
-slot-more {old} {slots} xs ys at k o e z h =
+slot-more : {slots : List ℕ} (xs ys : List ℕ) (at k : ℕ) → slots ≡ padded slotCount 0 (xs ++ ys)
+    → length xs + length ys ≡ at → at < slotCount → set slots at k ≡ padded slotCount 0 (xs ++ (ys ++ k ∷ []))
+slot-more {slots} xs ys at k e z h =
     let m : length (xs ++ ys) ≡ at = length-append xs ys ∙ z in
-    let size = ap length o ∙ length-append xs (replicate (slotCount - length xs) 0) in
-    let l : length (xs ++ ys) < slotCount = omega (arith, size, length-replicate {A = ℕ} (slotCount - length xs) 0) in
     rw (e, ← m)
-    (padded-more slotCount 0 (xs ++ ys) k l ∙ ap (λ (l : List ℕ). padded slotCount 0 l) (append-assoc xs ys (k ∷ [])))
+    (padded-more slotCount 0 (xs ++ ys) k (omega arith) ∙ ap (λ (l : List ℕ). padded slotCount 0 l) (append-assoc xs ys (k ∷ [])))
+
+-- no cells
+none-resolves : (nodes : List Node) (at : ℕ) (old : List ℕ) → Resolves nodes [] at old old true
+none-resolves nodes at old = record {
+  found = λ t xs e q. rw (append-nil xs) q;
+  hold = λ t place. hold-none nodes place;
+  fail = λ t. absurd (false≢true (sym t));
+}
 
 -- the slots of one feature, up to a cell
 module _ (tree : List ℕ) (from n : ℕ) (phandles : List ℕ) (count at : ℕ) (old : List ℕ) where
   pub record CellsResolved (slots : List ℕ) (j : ℕ) : Type 0 where
-    pub size : length slots ≡ length old
     pub all : (nodes : List Node) (ps : List ℕ) → ArePhandles phandles nodes → count ≡ length nodes → n ≡ length ps → CellsLie tree ps from
         → Resolves nodes (take j ps) at old slots true
 
   pub cells-begin : CellsResolved old 0
-  cells-begin =
-      record {
-        size = refl;
-        all =
-            λ nodes ps h c l lie.
-            record {
-              found = λ t xs e q. rw (append-nil xs) q;
-              hold = λ t place. hold-none nodes place;
-              fail = λ t. absurd (false≢true (sym t));
-            };
-      }
+  cells-begin = record { all = λ nodes ps h c l lie. none-resolves nodes at old }
 
   pub cells-resolved : {slots : List ℕ} {j : ℕ} → CellsResolved slots j → n ≤ j → ResolvesCells tree from n phandles count at old slots true
   cells-resolved {slots} {j} r h nodes ps ph c l lie = let e = take-all j ps (omega arith) in rw e at (r .all nodes ps ph c l lie)
@@ -81,9 +79,8 @@ module _ (tree : List ℕ) (from n : ℕ) (phandles : List ℕ) (count at : ℕ)
   -- the next cell
   module _ {slots : List ℕ} {j p k : ℕ} (r : CellsResolved slots j) (next : j < n) (e : p ≡ cellAt tree (from + 4 * j)) (fits : p < 0x100000000)
       (f : FirstThat (notedAt phandles p) count k) where
-    pub cells-more : k < count → at + n ≤ length old → CellsResolved (set slots (at + j) k) (j + 1)
+    pub cells-more : k < count → at + n ≤ slotCount → CellsResolved (set slots (at + j) k) (j + 1)
     cells-more found room = record {
-      size = length-set slots (at + j) k ∙ r .size;
       all =
           λ nodes ps ph c l lie.
           let s = r .all nodes ps ph c l lie in
@@ -99,7 +96,7 @@ module _ (tree : List ℕ) (from n : ℕ) (phandles : List ℕ) (count at : ℕ)
           (record {
             found =
                 λ t xs z o.
-                slot-more xs (map slot (take j ps)) (at + j) k o (s .found t xs z o) (omega arith) (omega arith)
+                slot-more xs (map slot (take j ps)) (at + j) k (s .found t xs z o) (omega arith) (omega arith)
                 ∙ ap (λ (l : List ℕ). padded slotCount 0 (xs ++ l)) last;
             hold = λ t place. hold-more nodes place (take j ps) p (s .hold t place) w;
             fail = λ t. absurd (false≢true (sym t));
@@ -120,3 +117,15 @@ module _ (tree : List ℕ) (from n : ℕ) (phandles : List ℕ) (count at : ℕ)
               subst⁻¹ (λ (l : List ℕ). FirstFailing (cellChecks place nodes l) 13 place) all
               (fail-behind nodes place (take j ps) p (drop (suc j) ps) (s .hold refl place) w);
         }
+
+-- the dependencies of one feature, by where their cells lie
+module _ (phandles : List ℕ) (count at : ℕ) (old : List ℕ) where
+  abbrev ResolvesValue : Value → List ℕ → Bool → Type 0
+  ResolvesValue v new r = (nodes : List Node) → ArePhandles phandles nodes → count ≡ length nodes → Resolves nodes (cellsOf v) at old new r
+
+  pub no-dependencies : {v : Value} → v ≡ missing → ResolvesValue v old true
+  no-dependencies e nodes ph c = rw e (none-resolves nodes at old)
+
+  pub dependencies-lie : {tree : List ℕ} {v : Value} {from size : ℕ} {new : List ℕ} {r : Bool} → Lies tree v from size
+      → ResolvesCells tree from (size / 4) phandles count at old new r → ResolvesValue v new r
+  dependencies-lie {v = v} g call nodes ph c = call nodes (cellsOf v) ph c (sym (count-of g)) (cells-lie g)

@@ -1,6 +1,6 @@
 -- A refused reading, a property that is a string, and a container's own properties. Assumes nothing.
 use mathlib.Core.Path.{_≡_, refl, sym, ap, subst, _∙_}
-use mathlib.Core.Bool.{Bool, true, false}
+use mathlib.Core.Bool.{Bool, true, false, false≢true}
 use mathlib.Core.List.{List, [], _∷_, _++_}
 use Prim.Native.Nat.{ℕ, _+_, _-_}
 use Prim.Native.String.{String}
@@ -12,7 +12,7 @@ use Rattle.record.specs.declared.Feature.{Feature}
 use Rattle.record.specs.declared.Record.{Record}
 use Rattle.record.specs.Record.{mostFeatures, slotCount, noFeature, noFeatures}
 use Rattle.refusal.specs.declared.Refusal.the-variants.{PropertyForm}
-use Rattle.refusal.specs.Refusal.{Fault, fault, Placed, refuseAt}
+use Rattle.refusal.specs.Refusal.{Fault, fault}
 use Rattle.refusal.specs.Checks.{Check, check}
 use Rattle.tokens.specs.Steps.{pick}
 use Rattle.tokens.specs.Tokens.{Token}
@@ -22,7 +22,7 @@ use Rattle.reading.specs.Values.{Value, missing, value, valueIn, valueOf, isTex
 use Rattle.reading.specs.Features.{requiredChecks}
 use Rattle.reading.specs.Reading.{containerProperties}
 use Rattle.reading.specs.Ends.{FirstFailing}
-use Rattle.reader.specs.Parts.{Lies, cellFault, badCell, CellIs, Judged, holdsText, ContainerIs}
+use Rattle.reader.specs.Parts.{Lies, cellFault, noCell, CellIs, Judged, holdsText, isContainer, ContainerIs}
 use Rattle.reading.proofs.CheckLaws.{fail-left, fail-right, fail-here}
 use Rattle.reader.proofs.JudgedLaws.{judged-check}
 
@@ -33,11 +33,6 @@ none f = record { isa = 0; count = 0; features = replicate mostFeatures f; slots
 pub none-is : {f : Feature} → f ≡ noFeature → none f ≡ noFeatures
 unfolding noFeatures
 none-is e = rw e
-
--- an answer whose record is that of no features
-pub refused-is : {number place : ℕ} {v : Record} {x : Placed Record} → x ≡ record { number = number; place = place; value = v } → v ≡ noFeatures
-    → x ≡ refuseAt noFeatures (fault number place)
-refused-is {number} {place} e q = e ∙ ap (λ (v : Record). refuseAt v (fault number place)) q
 
 -- a value that is a string
 module _ (text : List ℕ) {v : Value} where
@@ -72,7 +67,7 @@ compatible c = isText "ibm,powerpc-cpu-features" (valueOf c "compatible")
 abbrev checkOf : Node → Bool → List (Check Fault)
 checkOf c holds = check holds (fault 11 (c .at)) ∷ []
 
-bad-container : (c : Node) {r : CellRead} → FirstFailing (containerProperties c) 11 (c .at) → r ≡ badCell PropertyForm → ContainerIs c r
+bad-container : (c : Node) {r : CellRead} → FirstFailing (containerProperties c) 11 (c .at) → r ≡ noCell PropertyForm → ContainerIs c r
 bad-container c f e = rw e (record { judged = record { hold = λ z. absurd (omega arith); fail = λ z. f }; isa = λ z. absurd (omega arith) })
 
 module _ (ts : List Token) where
@@ -86,29 +81,48 @@ module _ (ts : List Token) where
   text-is : (text name : String) (c : Node) → Same c → {d : Bool} → d ≡ holdsText (bytes text) (valueIn (bytes name) ts) → isText text (valueOf c name) ≡ d
   text-is text name c same e = text-same text (valueOf c name) ∙ ap (holdsText (bytes text)) (same (bytes name)) ∙ sym e
 
-  module _ {d : Bool} (e : d ≡ holdsText (bytes "cpu-features") (valueIn (bytes "device_type") ts)) where
-    pub other-type : d ≡ false → {r : CellRead} → r ≡ badCell PropertyForm → Reads r
-    other-type z q c same =
-        bad-container c (fail-left (checkOf c (typed c)) _ (fail-here 11 (c .at) (text-is "cpu-features" "device_type" c same e ∙ z))) q
+  -- both texts
+  pub other-type : {d : Bool} → d ≡ holdsText (bytes "cpu-features") (valueIn (bytes "device_type") ts) → d ≡ false → false ≡ isContainer ts
+  unfolding isContainer
+  other-type e z = rw (sym e ∙ z)
 
-    module _ (z : d ≡ true) {g : Bool} (k : g ≡ holdsText (bytes "ibm,powerpc-cpu-features") (valueIn (bytes "compatible") ts)) where
-      type-holds : (c : Node) → Same c → typed c ≡ true
-      type-holds c same = text-is "cpu-features" "device_type" c same e ∙ z
+  pub right-type : {d g : Bool} → d ≡ holdsText (bytes "cpu-features") (valueIn (bytes "device_type") ts) → d ≡ true
+      → g ≡ holdsText (bytes "ibm,powerpc-cpu-features") (valueIn (bytes "compatible") ts)
+      → g ≡ isContainer ts
+  unfolding isContainer
+  right-type e z k = rw (sym e ∙ z) k
 
-      pub not-compatible : g ≡ false → {r : CellRead} → r ≡ badCell PropertyForm → Reads r
-      not-compatible y q c same =
-          let f = fail-here 11 (c .at) (text-is "ibm,powerpc-cpu-features" "compatible" c same k ∙ y) in
-          bad-container c (fail-right (checkOf c (typed c)) _ (type-holds c same, tt) (fail-left (checkOf c (compatible c)) _ f)) q
+  type-is : (c : Node) → Same c → typed c ≡ holdsText (bytes "cpu-features") (valueIn (bytes "device_type") ts)
+  type-is c same = text-is "cpu-features" "device_type" c same refl
 
-      pub container-read : g ≡ true → {r : CellRead} → CellIs true (valueIn (bytes "isa") ts) r → Reads r
-      container-read y {r} h c same =
-          let m = subst (λ (v : Value). CellIs true v r) (sym (same (bytes "isa"))) h in
-          let j = needed-judged (c .at) (valueOf c "isa") (m .number) in
-          let l = text-is "ibm,powerpc-cpu-features" "compatible" c same k ∙ y in
-          record {
-            judged = record {
-              hold = λ x. (type-holds c same, (l, j .hold x));
-              fail = λ x. fail-right (checkOf c (typed c) ++ checkOf c (compatible c)) _ (type-holds c same, (l, tt)) (j .fail x);
-            };
-            isa = λ x. m .cell (sym (m .number) ∙ x);
-          }
+  compatible-is : (c : Node) → Same c → compatible c ≡ holdsText (bytes "ibm,powerpc-cpu-features") (valueIn (bytes "compatible") ts)
+  compatible-is c same = text-is "ibm,powerpc-cpu-features" "compatible" c same refl
+
+  both : (c : Node) → Same c → isContainer ts ≡ pick (typed c) (compatible c) false
+  unfolding isContainer
+  both c same = rw (type-is c same, compatible-is c same)
+
+  pub not-container : isContainer ts ≡ false → {r : CellRead} → r ≡ noCell PropertyForm → Reads r
+  not-container z q c same = bad-container c (go (typed c) refl (compatible c) refl (sym (both c same) ∙ z)) q
+    where
+      go : (d : Bool) → typed c ≡ d → (g : Bool) → compatible c ≡ g → pick d g false ≡ false → FirstFailing (containerProperties c) 11 (c .at)
+      go false e g k z = fail-left (checkOf c (typed c)) _ (fail-here 11 (c .at) e)
+      go true e g k z =
+          fail-right (checkOf c (typed c)) _ (e, tt) (fail-left (checkOf c (compatible c)) _ (fail-here 11 (c .at) (k ∙ z)))
+
+  pub container-read : isContainer ts ≡ true → {r : CellRead} → CellIs true (valueIn (bytes "isa") ts) r → Reads r
+  container-read y {r} h c same =
+      let m = subst (λ (v : Value). CellIs true v r) (sym (same (bytes "isa"))) h in
+      let j = needed-judged (c .at) (valueOf c "isa") (m .fault) in
+      let t = go (typed c) (compatible c) (sym (both c same) ∙ y) in
+      record {
+        judged = record {
+          hold = λ x. (t .0, (t .1, j .hold x));
+          fail = λ x. fail-right (checkOf c (typed c) ++ checkOf c (compatible c)) _ (t .0, (t .1, tt)) (j .fail x);
+        };
+        isa = λ x. m .cell (sym (m .fault) ∙ x) .number;
+      }
+    where
+      go : (d g : Bool) → pick d g false ≡ true → (d ≡ true) × (g ≡ true)
+      go true g e = (refl, e)
+      go false g e = absurd (false≢true e)

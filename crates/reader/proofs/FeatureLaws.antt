@@ -1,81 +1,51 @@
 -- All properties of one feature. Assumes nothing.
-use mathlib.Core.Path.{_≡_, refl, sym, ap, subst, _∙_}
+use mathlib.Core.Path.{_≡_, sym, subst, _∙_}
 use mathlib.Core.Bool.{Bool}
 use mathlib.Core.List.{List}
-use Prim.Native.Nat.{ℕ, zero, suc}
+use Prim.Native.Nat.{ℕ}
 use native.Mathlib.Omega.{arith}
-use lib.ListN.{length}
+use lib.ListN.{length, set}
 use Rattle.header.specs.declared.Blocks.{Blocks}
 use Rattle.positions.specs.Bits.{bit}
-use Rattle.positions.specs.Below.{oneIf}
+use Rattle.walk.specs.Walk.{treeTokens}
 use Rattle.refusal.specs.declared.Refusal.{Refusal}
 use Rattle.refusal.specs.Refusal.{numberOf}
 use Rattle.record.specs.declared.Feature.{Feature}
-use Rattle.record.specs.Cells.{lowBit, numberIn}
 use Rattle.reader.specs.declared.cell.CellRead.{CellRead}
 use Rattle.reader.specs.declared.nodes.NodePlace.{NodePlace}
 use Rattle.reader.specs.declared.feature.FeatureCells.{FeatureCells}
 use Rattle.reading.specs.Nodes.{Node}
-use Rattle.reading.specs.Values.{Value, missing, value, isGiven, number, cellsOf}
-use Rattle.reading.specs.Values as values
+use Rattle.reading.specs.Values.{Value, lowBit}
 use Rattle.reading.specs.Features.{bitChecks, featureChecks, givenWord, featureOf}
-use Rattle.reading.specs.Resolved.{cellOf, countOf}
-use Rattle.reader.specs.Parts.{IsNode, CellIs, Judged, ArePhandles, BitIs, PhandleIs, CountIs, CellsAre, firstOf, refusalOf, isGivenCell, featureFrom, ReadsFeature}
+use Rattle.reader.specs.Parts.{IsNode, Holds, CellIs, Judged, noted, notedOf, ArePhandles, BitIs, CellsAre, refusalOf, featureFrom, ReadsFeature}
 use Rattle.reader.proofs.JudgedLaws.{judged-both}
-use Rattle.reader.proofs.PropertyLaws.{first-none, required-judged, optional-judged}
+use Rattle.reader.proofs.PropertyLaws.{first-none, first-zero, required-judged, optional-judged}
 
 -- bit 0 of a support cell
-low-bit : (v : Value) → lowBit (cellOf v) ≡ values.lowBit v
-unfolding bit
-low-bit missing = refl
-low-bit (value bs) = refl
+support-judged : {needed : Bool} {v u : Value} {s r : CellRead} → CellIs needed v s → numberOf (s .refusal) ≡ 0 → BitIs (bit (s .number) 0) u r → (at : ℕ)
+    → Judged (bitChecks at (lowBit v) u) (numberOf (r .refusal)) at
+support-judged {u = u} {r = r} h z g at =
+    subst (λ (n : ℕ). Judged (bitChecks at (bit n 0) u) (numberOf (r .refusal)) at) (h .cell (sym (h .fault) ∙ z) .number) (g .judged at)
 
-support-judged : {needed : Bool} {v u : Value} {s r : CellRead} → CellIs needed v s → numberOf (s .refusal) ≡ 0 → BitIs (lowBit (s .cell)) u r → (at : ℕ)
-    → Judged (bitChecks at (values.lowBit v) u) (numberOf (r .refusal)) at
-support-judged {needed} {v} {u} {s} {r} h z g at =
-    subst (λ (b : Bool). Judged (bitChecks at b u) (numberOf (r .refusal)) at) (ap lowBit (h .cell (sym (h .number) ∙ z)) ∙ low-bit v) (g .judged at)
-
-module _ {tree : List ℕ} {b : Blocks} {p : NodePlace} {phandles : List ℕ} {i : ℕ} {cells : FeatureCells} (cs : CellsAre tree b (p .behind) phandles i cells)
+module _ {tree : List ℕ} {b : Blocks} {p : NodePlace} {phandles : List ℕ} {i : ℕ} {cells : FeatureCells} (cs : CellsAre (treeTokens tree b (p .behind)) phandles i cells)
     (before : List Node) (n : Node) (h : IsNode tree b n p) where
   feature-judged : ArePhandles phandles before → i ≡ length before → Judged (featureChecks before n) (refusalOf cells) (n .at)
   unfolding featureChecks
   feature-judged y e =
       simp (h .values)
       (judged-both _ _ (required-judged (cs .isa) (n .at)) (λ a.
-      judged-both _ _ (required-judged (cs .usable) (n .at)) (λ u.
-      judged-both _ _ (optional-judged (cs .hv) (n .at)) (λ v.
-      judged-both _ _ (optional-judged (cs .os) (n .at)) (λ o.
-      judged-both _ _ (support-judged (cs .hv) v (cs .hfscr) (n .at)) (λ z.
-      judged-both _ _ (support-judged (cs .os) o (cs .fscr) (n .at)) (λ z.
-      judged-both _ _ (support-judged (cs .usable) u (cs .hwcap) (n .at)) (λ z.
+      judged-both _ _ (required-judged (cs .support .usable) (n .at)) (λ u.
+      judged-both _ _ (optional-judged (cs .support .hv) (n .at)) (λ v.
+      judged-both _ _ (optional-judged (cs .support .os) (n .at)) (λ o.
+      judged-both _ _ (support-judged (cs .support .hv) v (cs .bits .hfscr) (n .at)) (λ z.
+      judged-both _ _ (support-judged (cs .support .os) o (cs .bits .fscr) (n .at)) (λ z.
+      judged-both _ _ (support-judged (cs .support .usable) u (cs .bits .hwcap) (n .at)) (λ z.
       judged-both _ _ (cs .phandle .judged before y e (n .at)) (λ z.
       rw (← (first-none (numberOf (cells .dependencies .refusal)))) (cs .dependencies .judged (n .at)))))))))))
 
--- what a feature has of a cell
-record Kept (x g : ℕ) (r : CellRead) : Type 0 where
-  number : numberIn (r .cell) ≡ x
-  given : oneIf (isGivenCell (r .cell)) ≡ g
-
-cell-kept : (v : Value) {r : CellRead} → r .cell ≡ cellOf v → Kept (number v) (oneIf (isGiven v)) r
-cell-kept missing e = record { number = rw e; given = rw e }
-cell-kept (value bs) e = record { number = rw e; given = rw e }
-
-read-kept : {needed : Bool} {v : Value} {r : CellRead} → CellIs needed v r → numberOf (r .refusal) ≡ 0 → Kept (number v) (oneIf (isGiven v)) r
-read-kept {needed} {v} h z = cell-kept v (h .cell (sym (h .number) ∙ z))
-
-bit-kept : {needed : Bool} {v : Value} {r : CellRead} → BitIs needed v r → numberOf (r .refusal) ≡ 0 → Kept (number v) (oneIf (isGiven v)) r
-bit-kept {needed} {v} h z = cell-kept v (h .cell z)
-
-phandle-kept : {phandles : List ℕ} {n : ℕ} {v : Value} {r : CellRead} → PhandleIs phandles n v r → numberOf (r .refusal) ≡ 0
-    → Kept (number v) (oneIf (isGiven v)) r
-phandle-kept {phandles} {n} {v} h z = cell-kept v (h .cell z)
-
-count-kept : {v : Value} {r : CellRead} → CountIs v r → numberOf (r .refusal) ≡ 0 → Kept (length (cellsOf v)) (oneIf (isGiven v)) r
-count-kept {v} {r} h z = go v (h .cell z)
-  where
-    go : (v : Value) → r .cell ≡ countOf v → Kept (length (cellsOf v)) (oneIf (isGiven v)) r
-    go missing e = record { number = rw e; given = rw e }
-    go (value bs) e = record { number = rw e; given = rw e }
+-- what a feature has of a property's value
+read-held : {needed : Bool} {v : Value} {r : CellRead} → CellIs needed v r → numberOf (r .refusal) ≡ 0 → Holds v r
+read-held h z = h .cell (sym (h .fault) ∙ z)
 
 same : {f g : Feature} → f .offset ≡ g .offset → f .given ≡ g .given → f .isa ≡ g .isa → f .«usable_privilege» ≡ g .«usable_privilege»
     → f .«hv_support» ≡ g .«hv_support» → f .«os_support» ≡ g .«os_support» → f .«hfscr_bit_nr» ≡ g .«hfscr_bit_nr»
@@ -95,13 +65,10 @@ same o k a b c d e l m q x = λ i. record {
 }
 
 -- the feature, where nothing is refused
-first-zero : (m n : ℕ) → firstOf m n ≡ 0 → (m ≡ 0) × (n ≡ 0)
-first-zero zero n e = (refl, e)
-first-zero (suc m) n e = absurd (omega arith)
-
-module _ {tree : List ℕ} {b : Blocks} {p : NodePlace} {phandles : List ℕ} {i : ℕ} {cells : FeatureCells} (cs : CellsAre tree b (p .behind) phandles i cells)
+module _ {tree : List ℕ} {b : Blocks} {p : NodePlace} {phandles : List ℕ} {i : ℕ} {cells : FeatureCells} (cs : CellsAre (treeTokens tree b (p .behind)) phandles i cells)
     (n : Node) (h : IsNode tree b n p) where
-  feature-read : refusalOf cells ≡ 0 → featureFrom (p .at) cells ≡ featureOf n
+  feature-read : refusalOf cells ≡ 0
+      → (featureFrom (p .at) cells ≡ featureOf n) × (noted (cells .phandle .given) (cells .phandle .number) ≡ notedOf n)
   unfolding featureOf givenWord
   feature-read z =
       let z1 = first-zero _ _ z in
@@ -113,23 +80,27 @@ module _ {tree : List ℕ} {b : Blocks} {p : NodePlace} {phandles : List ℕ} {i
       let z7 = first-zero _ _ (z6 .1) in
       let z8 = first-zero _ _ (z7 .1) in
       let z9 = first-zero _ _ (z8 .1) in
-      let isa = read-kept (cs .isa) (z1 .0) in
-      let usable = read-kept (cs .usable) (z2 .0) in
-      let hv = read-kept (cs .hv) (z3 .0) in
-      let os = read-kept (cs .os) (z4 .0) in
-      let hfscr = bit-kept (cs .hfscr) (z5 .0) in
-      let fscr = bit-kept (cs .fscr) (z6 .0) in
-      let hwcap = bit-kept (cs .hwcap) (z7 .0) in
-      let phandle = phandle-kept (cs .phandle) (z8 .0) in
-      let dependencies = count-kept (cs .dependencies) (z9 .0) in
-      simp (h .values)
-      (same (sym (h .offset)) (omega arith) (isa .number) (usable .number) (hv .number) (os .number) (hfscr .number) (fscr .number) (hwcap .number)
-      (phandle .number) (dependencies .number))
+      let isa = read-held (cs .isa) (z1 .0) in
+      let usable = read-held (cs .support .usable) (z2 .0) in
+      let hv = read-held (cs .support .hv) (z3 .0) in
+      let os = read-held (cs .support .os) (z4 .0) in
+      let hfscr = cs .bits .hfscr .cell (z5 .0) in
+      let fscr = cs .bits .fscr .cell (z6 .0) in
+      let hwcap = cs .bits .hwcap .cell (z7 .0) in
+      let phandle = cs .phandle .cell (z8 .0) in
+      simp (h .values) (
+        same (sym (h .offset))
+            (rw (isa .given, usable .given, hv .given, os .given, hfscr .given, fscr .given, hwcap .given, phandle .given, cs .dependencies .given (z9 .0)) (omega arith)) (isa .number) (usable .number) (hv .number) (os .number) (hfscr .number) (fscr .number) (hwcap .number) (phandle .number)
+            (cs .dependencies .number (z9 .0)),
+        rw (phandle .given, phandle .number),
+      )
 
-pub feature-is : {tree : List ℕ} {b : Blocks} {p : NodePlace} {phandles : List ℕ} {i : ℕ} {cells : FeatureCells} {r : Refusal} {f : Feature}
-    → CellsAre tree b (p .behind) phandles i cells → numberOf r ≡ refusalOf cells → f ≡ featureFrom (p .at) cells
-    → ReadsFeature tree b p phandles i (record { refusal = r; feature = f })
-feature-is cs e k before n h y l = record {
+pub feature-is : {tree : List ℕ} {b : Blocks} {p : NodePlace} {old : List ℕ} {i : ℕ} {cells : FeatureCells} {r : Refusal} {f : Feature} {x : ℕ}
+    → CellsAre (treeTokens tree b (p .behind)) old i cells → numberOf r ≡ refusalOf cells → f ≡ featureFrom (p .at) cells
+    → x ≡ noted (cells .phandle .given) (cells .phandle .number)
+    → ReadsFeature tree b p old (set old i x) i (record { refusal = r; feature = f })
+feature-is {old = old} cs e k q before n h y l = record {
   judged = rw e (feature-judged cs before n h y l);
-  feature = λ z. k ∙ feature-read cs n h (sym e ∙ z);
+  feature = λ z. k ∙ feature-read cs n h (sym e ∙ z) .0;
+  phandle = λ z. rw (← l, q, feature-read cs n h (sym e ∙ z) .1);
 }

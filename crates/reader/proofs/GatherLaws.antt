@@ -2,24 +2,23 @@
 use mathlib.Core.Path.{_≡_, refl, sym, ap, _∙_}
 use mathlib.Core.Bool.{true, false}
 use mathlib.Core.List.{List, [], _∷_, _++_, append-assoc}
-use Prim.Native.Nat.{ℕ, zero, suc, _+_, _-_, _<_, _≤_}
+use Prim.Native.Nat.{ℕ, zero, suc, _+_, _<_, _≤_}
 use native.Mathlib.Omega.{arith}
-use native.Mathlib.Numerals.{add-one}
 use native.Mathlib.Decide.{decLt}
 use lib.ListN.{length, getD, set, replicate, length-append, length-set}
 use lib.Seq.{getD-set-same, getD-set-other}
 use Rattle.header.specs.declared.Blocks.{Blocks}
 use Rattle.cells.specs.Strings.{Text, textAt}
-use Rattle.tokens.specs.Tokens.{Token, beginNode, endNode}
+use Rattle.tokens.specs.Tokens.{Token, beginNode}
 use Rattle.positions.proofs.BelowLaws.{no-way}
 use Rattle.walk.specs.Walk.{nameIn, treeTokens}
 use Rattle.record.specs.Record.{mostFeatures}
-use Rattle.reader.specs.declared.nodes.Move.the-variants.{Begin, End, Pass, Stop}
+use Rattle.reader.specs.declared.nodes.Move.the-variants.{Child, Past}
 use Rattle.reader.specs.declared.nodes.NodePlace.{NodePlace}
 use Rattle.reader.specs.declared.nodes.Features.{Features}
 use Rattle.reading.specs.Nodes.{Node, node, childrenAt}
 use Rattle.reading.specs.Reading.{nodeAt}
-use Rattle.reader.specs.Parts.{Moved, begins, ends, passes, stops, noPlace, IsNode, AreNodes, Gathers}
+use Rattle.reader.specs.Parts.{Moved, child, past, noPlace, IsNode, AreNodes, Gathers}
 use Rattle.reader.proofs.MoveLaws.{children-past}
 
 -- a list with one more node
@@ -38,20 +37,6 @@ node-seam (m ∷ ns) n ms = node-seam ns n ms
 children-child : (t : ℕ) (name : Text) (ts : List Token) → childrenAt 0 (beginNode t name ∷ ts) ≡ node t name ts ∷ childrenAt 1 ts
 unfolding childrenAt
 children-child t name ts = refl
-
-children-deeper : (depth t : ℕ) (name : Text) (ts : List Token) → (depth ≡ 0 → ⊥) → childrenAt depth (beginNode t name ∷ ts) ≡ childrenAt (depth + 1) ts
-unfolding childrenAt
-children-deeper zero t name ts z = absurd (z refl)
-children-deeper (suc depth) t name ts z = rw (add-one (suc depth))
-
-children-up : (depth t : ℕ) (ts : List Token) → (depth ≡ 0 → ⊥) → childrenAt depth (endNode t ∷ ts) ≡ childrenAt (depth - 1) ts
-unfolding childrenAt
-children-up zero t ts z = absurd (z refl)
-children-up (suc depth) t ts z = let e : suc depth - 1 ≡ depth = omega arith in rw e
-
-children-end : (t : ℕ) (ts : List Token) → childrenAt 0 (endNode t ∷ ts) ≡ []
-unfolding childrenAt
-children-end t ts = refl
 
 module _ (tree : List ℕ) (b : Blocks) where
   nodes-more : (ns : List Node) (ps : List NodePlace) (n : Node) (p : NodePlace) → length ns < length ps → AreNodes tree b ns ps → IsNode tree b n p
@@ -102,8 +87,8 @@ module _ (tree : List ℕ) (b : Blocks) where
     abbrev with : ℕ → ℕ → ℕ → ℕ → Features
     with n t name next = record { count = n + 1; more = fs .more; over = fs .over; nodes = set (fs .nodes) n (record { at = t; name = name; behind = next }) }
 
-    pub gather-child : {t name next : ℕ} → depth ≡ 0 → Moved tree b at (Begin t name next) → fs .count < mostFeatures → Gathering first (with (fs .count) t name next) 1 next
-    gather-child {t} {name} {next} z (begins {ts = ts} e like on) room =
+    pub gather-child : {t name next : ℕ} → Moved tree b depth at (Child t name next) → fs .count < mostFeatures → Gathering first (with (fs .count) t name next) 1 next
+    gather-child {t} {name} {next} (child {ts = ts} z e like on) room =
         let n = node t (textAt tree name (b .end)) ts in
         let p : NodePlace = record { at = t; name = name; behind = next } in
         let is : IsNode tree b n p = record { offset = refl; name = refl; values = like .values } in
@@ -124,9 +109,9 @@ module _ (tree : List ℕ) (b : Blocks) where
           low = omega (arith, on);
         }
 
-    -- the same, where the children taken stay
-    on-with : {d next : ℕ} → childrenAt depth (treeTokens tree b at) ≡ childrenAt d (treeTokens tree b next) → d ≤ next → Gathering first fs d next
-    on-with e l =
+    -- a token is passed
+    pub gather-past : {d next : ℕ} → Moved tree b depth at (Past d next) → Gathering first fs d next
+    gather-past (past e on l) =
         record {
           taken = g .taken;
           split = g .split ∙ ap (λ (ns : List Node). g .taken ++ ns) e;
@@ -138,23 +123,15 @@ module _ (tree : List ℕ) (b : Blocks) where
           low = l;
         }
 
-    pub gather-nested : {t name next : ℕ} → (depth ≡ 0 → ⊥) → Moved tree b at (Begin t name next) → Gathering first fs (depth + 1) next
-    gather-nested {t} {name} z (begins {ts = ts} e like on) =
-        on-with (rw e (children-deeper depth t (textAt tree name (b .end)) ts z) ∙ like .nodes (depth + 1)) (omega (arith, on, g .low))
-
-    pub gather-up : {next : ℕ} → (depth ≡ 0 → ⊥) → Moved tree b at (End next) → Gathering first fs (depth - 1) next
-    gather-up {next} z (ends {t} e on) = on-with (rw e (children-up depth t (treeTokens tree b next) z)) (omega (arith, on, g .low))
-
-    pub gather-pass : {next : ℕ} → Moved tree b at (Pass next) → Gathering first fs depth next
-    gather-pass (passes e on) = on-with (e depth) (omega (arith, on, g .low))
-
     -- there are no more
-    gathered : childrenAt depth (treeTokens tree b at) ≡ [] → Gathers tree b all fs
-    gathered e =
+    pub gathered : b .end ≤ at → Gathers tree b all fs
+    gathered h =
         record {
           taken = g .taken;
           others = [];
-          split = g .split ∙ ap (λ (ns : List Node). g .taken ++ ns) e;
+          split =
+              g .split
+              ∙ ap (λ (ns : List Node). g .taken ++ ns) (children-past tree (b .end) (nameIn tree b) at h depth);
           count = g .count;
           few = g .few;
           nodes = g .nodes;
@@ -162,21 +139,12 @@ module _ (tree : List ℕ) (b : Blocks) where
           over = λ z. no-way (fs .more) z (g .more);
         }
 
-    pub gathered-end : {next : ℕ} → depth ≡ 0 → Moved tree b at (End next) → Gathers tree b all fs
-    gathered-end {next} z (ends {t} e on) = gathered (rw (z, e) (children-end t (treeTokens tree b next)))
-
-    pub gathered-stop : Moved tree b at Stop → Gathers tree b all fs
-    gathered-stop (stops e) = gathered (e depth)
-
-    pub gathered-past : b .end ≤ at → Gathers tree b all fs
-    gathered-past h = gathered (children-past tree (b .end) (nameIn tree b) at h depth)
-
     -- there is one more than may be taken
     abbrev overfull : ℕ → Features
     overfull t = record { count = fs .count; more = true; over = t; nodes = fs .nodes }
 
-    pub gathered-over : {t name next : ℕ} → depth ≡ 0 → Moved tree b at (Begin t name next) → mostFeatures ≤ fs .count → Gathers tree b all (overfull t)
-    gathered-over {t} {name} z (begins {ts = ts} e like on) h =
+    pub gathered-over : {t name next : ℕ} → Moved tree b depth at (Child t name next) → mostFeatures ≤ fs .count → Gathers tree b all (overfull t)
+    gathered-over {t} {name} (child {ts = ts} z e like on) h =
         let n = node t (textAt tree name (b .end)) ts in
         record {
           taken = g .taken;

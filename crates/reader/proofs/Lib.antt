@@ -18,4 +18,5 @@ pub mod Located
 pub mod Answers
 pub mod ContainerLaws
 pub mod RepeatLaws
+pub mod ChildrenLaws
 pub mod ReadingLaws

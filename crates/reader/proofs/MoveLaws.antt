@@ -1,21 +1,22 @@
 -- The children of a node by the token at a place. Assumes nothing.
-use mathlib.Core.Path.{_≡_, refl, sym, subst}
-use mathlib.Core.List.{List, []}
-use Prim.Native.Nat.{ℕ, _+_, _<_, _≤_}
+use mathlib.Core.Path.{_≡_, refl, sym, _∙_}
+use mathlib.Core.List.{List, [], _∷_}
+use Prim.Native.Nat.{ℕ, zero, suc, _+_, _-_, _<_, _≤_}
 use native.Mathlib.Omega.{arith}
+use native.Mathlib.Numerals.{add-one}
 use Rattle.cells.specs.Strings.{Text, ended, unended, textAt}
 use Rattle.tokens.specs.declared.Cursor.{Cursor}
 use Rattle.tokens.specs.declared.Step.{Step}
 use Rattle.tokens.specs.declared.Step.the-variants.{BeginNode, EndNode, Property, Nop, End, Fault}
 use Rattle.tokens.specs.Steps.{stepAt}
-use Rattle.tokens.specs.Tokens.{end, tokens, afterBegin}
+use Rattle.tokens.specs.Tokens.{Token, beginNode, endNode, end, tokens, afterBegin}
 use Rattle.tokens.proofs.TokenList.{tokens-step, follow, view, Is, begins as isBegin, ends as isEnd, holds, skips, stops as isStop, cut, unknown, none, seen, property-moves, nop-moves, end-node-moves}
 use Rattle.header.specs.declared.Blocks.{Blocks}
 use Rattle.walk.specs.Walk.{nameIn, treeTokens}
-use Rattle.reader.specs.declared.nodes.Move.the-variants.{Begin, End as EndMove, Pass, Stop}
+use Rattle.reader.specs.declared.nodes.Move.the-variants.{Child, Past}
 use Rattle.reading.specs.Nodes.{childrenAt}
 use Rattle.reading.specs.Values.{valueIn}
-use Rattle.reader.specs.Parts.{behindOf, Alike, Moved, begins, ends, passes, stops}
+use Rattle.reader.specs.Parts.{behindOf, Alike, Moved, child, past}
 use Rattle.reader.proofs.ValueLaws.{value-past}
 
 -- no child begins past the end of the block
@@ -33,6 +34,21 @@ children-past s stop names at h depth = rw (tokens-step s stop names at refl) (g
     go (unknown r a b c d e) = refl
     go (none r) = refl
 
+-- the children of a node, by the token that comes first
+children-deeper : (depth t : ℕ) (name : Text) (ts : List Token) → (depth ≡ 0 → ⊥) → childrenAt depth (beginNode t name ∷ ts) ≡ childrenAt (depth + 1) ts
+unfolding childrenAt
+children-deeper zero t name ts z = absurd (z refl)
+children-deeper (suc depth) t name ts z = rw (add-one (suc depth))
+
+children-up : (depth t : ℕ) (ts : List Token) → (depth ≡ 0 → ⊥) → childrenAt depth (endNode t ∷ ts) ≡ childrenAt (depth - 1) ts
+unfolding childrenAt
+children-up zero t ts z = absurd (z refl)
+children-up (suc depth) t ts z = let e : suc depth - 1 ≡ depth = omega arith in rw e
+
+children-end : (t : ℕ) (ts : List Token) → childrenAt 0 (endNode t ∷ ts) ≡ []
+unfolding childrenAt
+children-end t ts = refl
+
 module _ (tree : List ℕ) (b : Blocks) where
   -- what is behind a begin token, by its name
   pub alike-behind : (from : ℕ) (t : Text) → Alike (afterBegin (treeTokens tree b) from t) (treeTokens tree b (behindOf from (b .end) t))
@@ -48,47 +64,66 @@ module _ (tree : List ℕ) (b : Blocks) where
   further at (ended name) h = omega arith
   further at unended h = h
 
-  begin-moved : (at : ℕ) {t next : ℕ} {c : Cursor} → Is tree (b .end) at (BeginNode t c) → stepAt tree (b .end) at ≡ BeginNode t c → at < b .end
-      → next ≡ behindOf (c .at) (b .end) (textAt tree (c .at) (b .end)) → Moved tree b at (Begin t (c .at) next)
-  begin-moved at (isBegin r k) e h q =
-      let name = textAt tree (at + 4) (b .end) in
-      subst (λ (next : ℕ). Moved tree b at (Begin at (at + 4) next)) (sym q)
-      (begins (tokens-step tree (b .end) (nameIn tree b) at e) (alike-behind (at + 4) name) (further at name h))
+  -- what a begin token is, by its step
+  record Begins (at t : ℕ) (c : Cursor) : Type 0 where
+    own : t ≡ at
+    named : c .at ≡ at + 4
 
-  module _ (at : ℕ) where
-    pub move-begin : {t next : ℕ} {c : Cursor} → stepAt tree (b .end) at ≡ BeginNode t c → at < b .end
-        → next ≡ behindOf (c .at) (b .end) (textAt tree (c .at) (b .end)) → Moved tree b at (Begin t (c .at) next)
-    move-begin e h q = begin-moved at (seen tree (b .end) at e) e h q
+  begins : {at t : ℕ} {c : Cursor} → Is tree (b .end) at (BeginNode t c) → Begins at t c
+  begins (isBegin r k) = record { own = refl; named = refl }
 
-    pub move-end-node : {t : ℕ} {c : Cursor} → stepAt tree (b .end) at ≡ EndNode t c → Moved tree b at (EndMove (c .at))
-    move-end-node e = let m = end-node-moves tree (b .end) at e in ends (tokens-step tree (b .end) (nameIn tree b) at e) (omega (arith, m .on))
+  module _ (depth at : ℕ) (h : at < b .end) (low : depth ≤ at) where
+    -- where no child is left
+    none-left : childrenAt depth (treeTokens tree b at) ≡ [] → Moved tree b depth at (Past depth (b .end))
+    none-left e = past (e ∙ sym (children-past tree (b .end) (nameIn tree b) (b .end) (omega arith) depth)) h (omega arith)
 
-    pub move-property : {t v l o : ℕ} {c : Cursor} → stepAt tree (b .end) at ≡ Property t v l o c → Moved tree b at (Pass (c .at))
+    module _ {t next : ℕ} {c : Cursor} (e : stepAt tree (b .end) at ≡ BeginNode t c) (q : next ≡ behindOf (c .at) (b .end) (textAt tree (c .at) (b .end))) where
+      on : at < next
+      on = rw (q, begins (seen tree (b .end) at e) .named) (further at (textAt tree (at + 4) (b .end)) h)
+
+      like : Alike (afterBegin (treeTokens tree b) (c .at) (textAt tree (c .at) (b .end))) (treeTokens tree b next)
+      like = rw q (alike-behind (c .at) (textAt tree (c .at) (b .end)))
+
+      pub move-child : depth ≡ 0 → Moved tree b depth at (Child t (c .at) next)
+      move-child z = child z (tokens-step tree (b .end) (nameIn tree b) at e) like on
+
+      pub move-deeper : (depth ≡ 0 → ⊥) → Moved tree b depth at (Past (depth + 1) next)
+      move-deeper z =
+          past (rw (tokens-step tree (b .end) (nameIn tree b) at e) (children-deeper depth t _ _ z) ∙ like .nodes (depth + 1)) on (omega (arith, on))
+
+    module _ {t : ℕ} {c : Cursor} (e : stepAt tree (b .end) at ≡ EndNode t c) where
+      pub move-ended : depth ≡ 0 → Moved tree b depth at (Past depth (b .end))
+      move-ended z = none-left (rw (z, tokens-step tree (b .end) (nameIn tree b) at e) (children-end t _))
+
+      pub move-up : (depth ≡ 0 → ⊥) → Moved tree b depth at (Past (depth - 1) (c .at))
+      move-up z =
+          let m = end-node-moves tree (b .end) at e in
+          past {d = depth - 1} {next = c .at} (rw (tokens-step tree (b .end) (nameIn tree b) at e) (children-up depth t _ z)) (omega (arith, m .on)) (omega (arith, m .on))
+
+    pub move-property : {t v l o : ℕ} {c : Cursor} → stepAt tree (b .end) at ≡ Property t v l o c → Moved tree b depth at (Past depth (c .at))
     unfolding childrenAt
     move-property {c = c} e =
         let m = property-moves tree (b .end) at e in
-        passes {next = c .at} (λ depth. rw (tokens-step tree (b .end) (nameIn tree b) at e)) (omega (arith, m .on))
+        past {d = depth} {next = c .at} (rw (tokens-step tree (b .end) (nameIn tree b) at e)) (omega (arith, m .on)) (omega (arith, m .on))
 
-    pub move-nop : {t : ℕ} {c : Cursor} → stepAt tree (b .end) at ≡ Nop t c → Moved tree b at (Pass (c .at))
+    pub move-nop : {t : ℕ} {c : Cursor} → stepAt tree (b .end) at ≡ Nop t c → Moved tree b depth at (Past depth (c .at))
     unfolding childrenAt
     move-nop {c = c} e =
         let m = nop-moves tree (b .end) at e in
-        passes {next = c .at} (λ depth. rw (tokens-step tree (b .end) (nameIn tree b) at e)) (omega (arith, m .on))
+        past {d = depth} {next = c .at} (rw (tokens-step tree (b .end) (nameIn tree b) at e)) (omega (arith, m .on)) (omega (arith, m .on))
 
-    pub move-end : {t : ℕ} → stepAt tree (b .end) at ≡ End t → Moved tree b at Stop
+    pub move-end : {t : ℕ} → stepAt tree (b .end) at ≡ End t → Moved tree b depth at (Past depth (b .end))
     unfolding childrenAt
-    move-end e = stops (λ depth. rw (tokens-step tree (b .end) (nameIn tree b) at e))
+    move-end e = none-left (rw (tokens-step tree (b .end) (nameIn tree b) at e))
 
-    pub move-fault : {t : ℕ} → stepAt tree (b .end) at ≡ Fault t → Moved tree b at Stop
+    pub move-fault : {t : ℕ} → stepAt tree (b .end) at ≡ Fault t → Moved tree b depth at (Past depth (b .end))
     unfolding childrenAt
-    move-fault e = stops (λ depth. rw (tokens-step tree (b .end) (nameIn tree b) at e))
+    move-fault e = none-left (rw (tokens-step tree (b .end) (nameIn tree b) at e))
 
-    -- a move goes on
-    pub begin-on : {t name next : ℕ} → Moved tree b at (Begin t name next) → at < next
-    begin-on (begins e like on) = on
+  -- a move goes on
+  module _ (depth at : ℕ) where
+    pub child-on : {t name next : ℕ} → Moved tree b depth at (Child t name next) → at < next
+    child-on (child z e like on) = on
 
-    pub end-on : {next : ℕ} → Moved tree b at (EndMove next) → at < next
-    end-on (ends e on) = on
-
-    pub pass-on : {next : ℕ} → Moved tree b at (Pass next) → at < next
-    pass-on (passes e on) = on
+    pub past-on : {d next : ℕ} → Moved tree b depth at (Past d next) → at < next
+    past-on (past e on l) = on

@@ -12,12 +12,11 @@ use Rattle.cells.specs.Rows.{padded}
 use Rattle.tokens.specs.Steps.{pick}
 use Rattle.record.specs.Record.{mostFeatures}
 use Rattle.reading.specs.Nodes.{Node}
-use Rattle.reading.specs.Values.{Value, missing, value, valueOf}
+use Rattle.reading.specs.Values.{Value, missing, value, valueOf, isGiven, number}
 use Rattle.reading.specs.Features.{isCarried, carries}
 use Rattle.reading.specs.Dependencies.{Carrier, nowhere, position, carrierFrom, carrier}
-use Rattle.reading.specs.Resolved.{cellOf}
 use Rattle.reading.specs.Reading.{nodeAt}
-use Rattle.reader.specs.Parts.{FirstThat, notedCell, notedOf, notedAt, ArePhandles}
+use Rattle.reader.specs.Parts.{FirstThat, noted, notedOf, notedAt, ArePhandles}
 
 -- what a row has of the node at an index
 map-at : {A : Type 0} (f : Node → A) (z : A) (ns : List Node) (i : ℕ) → i < length ns → getD (map f ns) i z ≡ f (nodeAt ns i)
@@ -26,12 +25,12 @@ map-at f z [] i h = absurd (omega arith)
 map-at f z (n ∷ ns) zero h = refl
 map-at f z (n ∷ ns) (suc i) h = map-at f z ns i (omega arith)
 
-pub row-at : {A : Type 0} (m : ℕ) (z : A) (f : Node → A) (ns : List Node) (i : ℕ) → i < length ns → getD (padded m z (map f ns)) i z ≡ f (nodeAt ns i)
+row-at : {A : Type 0} (m : ℕ) (z : A) (f : Node → A) (ns : List Node) (i : ℕ) → i < length ns → getD (padded m z (map f ns)) i z ≡ f (nodeAt ns i)
 row-at m z f ns i h =
     let l : i < length (map f ns) = omega (arith, length-map ns f) in
     List·getD-append (map f ns) (replicate (m - length (map f ns)) z) z i l ∙ map-at f z ns i h
 
-noted-value : (v : Value) (p : ℕ) → p < 0x100000000 → eqb (notedCell (cellOf v)) p ≡ isCarried p v
+noted-value : (v : Value) (p : ℕ) → p < 0x100000000 → eqb (noted (isGiven v) (number v)) p ≡ isCarried p v
 noted-value missing p h = ne-eqb 0x100000000 p (λ e. absurd (omega arith))
 noted-value (value bs) p h = refl
 

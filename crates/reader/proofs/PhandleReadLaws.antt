@@ -1,57 +1,45 @@
 -- What is found of a phandle behind the features of some nodes. Assumes nothing.
-use mathlib.Core.Path.{_≡_, refl, sym, subst, _∙_}
-use mathlib.Core.Bool.{Bool, true, false, not}
+use mathlib.Core.Path.{_≡_, refl, sym, _∙_}
+use mathlib.Core.Bool.{Bool, true, false, not, false≢true}
 use mathlib.Core.List.{List, [], _∷_}
 use Prim.Native.Nat.{ℕ, zero, suc, _<_, _≤_}
 use native.Mathlib.Omega.{arith}
-use native.Mathlib.Decide.{decLt}
-use borrow.Author.Tests.{eq-eqb, ne-eqb, lt-ltb, le-ltb}
-use lib.Dec.{eqb, ltb}
+use borrow.Author.Tests.{eq-eqb, ne-eqb, leb-true, leb-false}
+use lib.Dec.{leb}
 use lib.ListN.{length}
-use mir.Val.{Val}
-use denote.Laws.{Is}
-use denote.Struct.Declared.{row}
 use Rattle.cells.specs.Cells.{cellAt}
-use Rattle.names.specs.Names.{either}
 use Rattle.tokens.specs.Steps.{pick}
 use Rattle.positions.proofs.BelowLaws.{no-way}
-use Rattle.refusal.specs.declared.Refusal.the-variants.{Repeated}
-use Rattle.refusal.specs.Refusal.{fault, numberOf}
-use Rattle.refusal.specs.Checks.{check}
-use Rattle.record.specs.declared.Cell.{Cell}
-use Rattle.record.specs.declared.Cell.the-variants.{Absent, Given}
+use Rattle.refusal.specs.declared.Refusal.the-variants.{OutOfRange, Repeated}
+use Rattle.refusal.specs.Refusal.{numberOf}
 use Rattle.reader.specs.declared.cell.CellRead.{CellRead}
 use Rattle.reading.specs.Nodes.{Node}
-use Rattle.reading.specs.Values.{Value, missing, value, isCellOrMissing, number}
+use Rattle.reading.specs.Values.{Value, missing, value, isGiven, number}
 use Rattle.reading.specs.Features.{some, carries, isPhandle, isRepeated, phandleChecks}
 use Rattle.reading.specs.Reading.{nodeAt}
-use Rattle.reading.specs.Resolved.{cellOf}
-use Rattle.reader.specs.Parts.{badCell, CellIs, inRange, Judged, FirstThat, notedAt, ArePhandles, PhandleIs, firstOf}
-use Rattle.reader.proofs.cell.CellRead.{the-type}
+use Rattle.reader.specs.Parts.{noCell, cellFault, Holds, CellIs, atMost, Judged, FirstThat, notedAt, ArePhandles, PhandleIs, firstOf}
 use Rattle.reader.proofs.JudgedLaws.{judged-both}
 use Rattle.reading.proofs.Carriers.{some-none}
 use Rattle.reader.proofs.PhandleLaws.{noted-carries}
-use Rattle.reader.proofs.PropertyLaws.{first-right, first-none, judged-pick, form-judged}
-use Rattle.reader.proofs.RangeLaws.{outOf, Ranged, ranged}
+use Rattle.reader.proofs.PropertyLaws.{first-zero, judged-pick, form-judged}
+use Rattle.reader.proofs.RangeLaws.{Ranged, ranged}
 
--- a phandle: its cell fits its type
-small : (v : Value) (c : CellRead) (vs : List Val) → Is (row the-type) c vs → c .cell ≡ cellOf v → number v < 0x100000000
-small missing c vs g e = omega arith
-small (value bs) c vs g e = let f = subst (λ (x : Cell). Is (row the-type) (record { refusal = c .refusal; cell = x }) vs) e g in omega arith
+-- a phandle: "neither 0 nor all ones"
+all-ones : (v : Value) → number v < 0x100000000 → leb (number v) 0xfffffffe ≡ false → isPhandle v ≡ false
+all-ones missing l e = absurd (omega (arith, leb-false 0 0xfffffffe e))
+all-ones (value bs) l e =
+    let h = leb-false (cellAt bs 0) 0xfffffffe e in
+    rw (ne-eqb (cellAt bs 0) 0 (λ z. omega arith), eq-eqb (cellAt bs 0) 0xffffffff (omega arith))
 
-phandle-judged : (v : Value) (at : ℕ) → number v < 0x100000000 → Judged (check (isPhandle v) (fault 12 at) ∷ []) (outOf 1 0xfffffffe v) at
-phandle-judged missing at l = judged-pick true 12 at (omega arith)
-phandle-judged (value bs) at l = go (cellAt bs 0) l (decLt (cellAt bs 0) 1) (decLt 0xfffffffe (cellAt bs 0))
-  where
-    go : (n : ℕ) → n < 0x100000000 → Dec (n < 1) → Dec (0xfffffffe < n)
-        → Judged (check (not (either (eqb n 0) (eqb n 0xffffffff))) (fault 12 at) ∷ []) (pick (ltb n 1) 12 (pick (ltb 0xfffffffe n) 12 0)) at
-    go n l (yes m) k = rw (lt-ltb n 1 m, eq-eqb n 0 (omega arith)) (judged-pick false 12 at (omega arith))
-    go n l (no m) (yes k) =
-        rw (le-ltb n 1 (omega arith), lt-ltb 0xfffffffe n k, ne-eqb n 0 (omega arith), eq-eqb n 0xffffffff (omega arith))
-        (judged-pick false 12 at (omega arith))
-    go n l (no m) (no k) =
-        rw (le-ltb n 1 (omega arith), le-ltb 0xfffffffe n (omega arith), ne-eqb n 0 (omega arith), ne-eqb n 0xffffffff (omega arith))
-        (judged-pick true 12 at (omega arith))
+zero-phandle : (v : Value) → isGiven v ≡ true → number v ≡ 0 → isPhandle v ≡ false
+zero-phandle missing g z = absurd (false≢true g)
+zero-phandle (value bs) g z = rw (eq-eqb (cellAt bs 0) 0 z)
+
+good-phandle : (v : Value) → (number v ≡ 0 → ⊥) → leb (number v) 0xfffffffe ≡ true → isPhandle v ≡ true
+good-phandle missing z e = refl
+good-phandle (value bs) z e =
+    let h = leb-true (cellAt bs 0) 0xfffffffe e in
+    rw (ne-eqb (cellAt bs 0) 0 z, ne-eqb (cellAt bs 0) 0xffffffff (λ q. omega arith))
 
 -- one of some nodes
 some-one : (q : Node → Bool) (ns : List Node) (k : ℕ) → k < length ns → q (nodeAt ns k) ≡ true → some q ns ≡ true
@@ -75,56 +63,92 @@ module _ (phandles : List ℕ) (p : ℕ) {n i : ℕ} (f : FirstThat (notedAt pha
   noted-nowhere m =
       none-some (carries p) before (λ k o. sym (noted-carries phandles before h p l k o) ∙ f .before k (omega arith))
 
-repeated : {p : ℕ} (before : List Node) (v : Value) → cellOf v ≡ Given p → isRepeated before v ≡ some (carries p) before
-repeated before missing e = let z : _≡_ {A = ℕ} 0 1 = cc in absurd (omega arith)
-repeated {p} before (value bs) e = let z : cellAt bs 0 ≡ p = cc in rw z
+repeated : {p : ℕ} (before : List Node) (v : Value) → isGiven v ≡ true → number v ≡ p → isRepeated before v ≡ some (carries p) before
+repeated before missing g e = absurd (false≢true g)
+repeated before (value bs) g e = rw e
 
-module _ {v : Value} {c read : CellRead} (h : CellIs false v c) (vs : List Val) (fits : Is (row the-type) c vs) (q : read ≡ inRange 1 0xfffffffe c) where
-  found : Ranged 1 0xfffffffe false v read
-  found = ranged 1 0xfffffffe h q
+-- the number that a phandle's checks find
+abbrev phandleFault : List Node → Value → ℕ
+phandleFault before v = firstOf (cellFault false v) (firstOf (pick (isPhandle v) 0 12) (pick (not (isRepeated before v)) 0 9))
 
-  judged : (k : ℕ) (before : List Node) (at : ℕ) {m : ℕ} → m ≡ firstOf (numberOf (read .refusal)) k
-      → (numberOf (read .refusal) ≡ 0 → Judged (check (not (isRepeated before v)) (fault 9 at) ∷ []) k at) → Judged (phandleChecks at before v) m at
-  judged k before at e j =
-      let both : Judged (check (isCellOrMissing v) (fault 11 at) ∷ check (isPhandle v) (fault 12 at) ∷ []) (numberOf (read .refusal)) at =
-      rw (found .number) (judged-both _ _ (form-judged v at) (λ z. phandle-judged v at (small v c vs fits (h .cell z)))) in
-      rw e (judged-both _ _ both j)
+phandle-judged : (before : List Node) (v : Value) (at : ℕ) {k : ℕ} → k ≡ phandleFault before v → Judged (phandleChecks at before v) k at
+phandle-judged before v at e =
+    rw e
+    (judged-both _ _ (form-judged v at)
+    (λ z. judged-both _ _ (judged-pick (isPhandle v) 12 at (omega arith)) (λ z. judged-pick (not (isRepeated before v)) 9 at (omega arith))))
 
-  pub phandle-absent : {phandles : List ℕ} {n : ℕ} → read .cell ≡ Absent → PhandleIs phandles n v read
-  phandle-absent a = record {
-    judged = λ before y k at. judged 0 before at (first-none (numberOf (read .refusal))) (λ z. go before at v (sym (found .cell z) ∙ a));
-    cell = found .cell;
-  }
-    where
-      go : (before : List Node) (at : ℕ) (v : Value) → cellOf v ≡ Absent → Judged (check (not (isRepeated before v)) (fault 9 at) ∷ []) 0 at
-      go before at missing e = judged-pick true 9 at (omega arith)
-      go before at (value bs) e = let z : _≡_ {A = ℕ} 0 1 = cc in absurd (omega arith)
+module _ {v : Value} {c read : CellRead} (h : CellIs false v c) (l : c .number < 0x100000000) (q : read ≡ atMost 0xfffffffe c) where
+  found : Ranged 0xfffffffe false v read
+  found = ranged 0xfffffffe h q
 
-  module _ {p : ℕ} (g : read .cell ≡ Given p) (l : p < 0x100000000) where
+  -- refused, or not given
+  module _ (g : read .given ≡ false) (before : List Node) where
+    none-fault : (v : Value) → isGiven v ≡ false → phandleFault before v ≡ 0
+    none-fault missing e = refl
+    none-fault (value bs) e = absurd (false≢true (sym e))
+
+    same-fault : (k : ℕ) → cellFault false v ≡ k → (b : Bool) → leb (number v) 0xfffffffe ≡ b → (firstOf k (pick b 0 12) ≡ 0 → ⊥)
+        → firstOf k (pick b 0 12) ≡ phandleFault before v
+    same-fault (suc k) e b t z = rw e
+    same-fault zero e true t z = absurd (z refl)
+    same-fault zero e false t z = let n = h .cell e .number in rw (e, all-ones v (omega arith) t)
+
+    absent-fault : numberOf (read .refusal) ≡ phandleFault before v
+    absent-fault = go (numberOf (read .refusal)) refl
+      where
+        go : (k : ℕ) → numberOf (read .refusal) ≡ k → numberOf (read .refusal) ≡ phandleFault before v
+        go zero e = e ∙ sym (none-fault v (sym (found .cell e .given) ∙ g))
+        go (suc k) e = found .fault ∙ same-fault (cellFault false v) refl (leb (number v) 0xfffffffe) refl (λ z. let y = found .fault ∙ z in omega arith)
+
+  pub phandle-absent : {phandles : List ℕ} {n : ℕ} → read .given ≡ false → PhandleIs phandles n v read
+  phandle-absent g = record { judged = λ before y k at. phandle-judged before v at (absent-fault g before); cell = found .cell }
+
+  -- given
+  module _ (g : read .given ≡ true) where
     good : numberOf (read .refusal) ≡ 0
     good = go (numberOf (read .refusal)) refl
       where
         go : (k : ℕ) → numberOf (read .refusal) ≡ k → numberOf (read .refusal) ≡ 0
         go zero e = e
-        go (suc k) e =
-            let a : read .cell ≡ Absent = found .refused (λ z. omega arith) in
-            let z : _≡_ {A = ℕ} 0 1 = cc in
-            absurd (omega arith)
+        go (suc k) e = absurd (false≢true (sym (found .refused (λ z. omega arith)) ∙ g))
 
-    again : (before : List Node) → isRepeated before v ≡ some (carries p) before
-    again before = repeated before v (sym (found .cell good) ∙ g)
+    is : Holds v read
+    is = found .cell good
 
-    module _ (phandles : List ℕ) {n i : ℕ} (f : FirstThat (notedAt phandles p) n i) where
-      pub phandle-again : i < n → {r : CellRead} → r ≡ badCell Repeated → PhandleIs phandles n v r
+    neither : (cellFault false v ≡ 0) × (_≡_ {A = ℕ} (pick (leb (number v) 0xfffffffe) 0 12) 0)
+    neither = first-zero (cellFault false v) (pick (leb (number v) 0xfffffffe) 0 12) (sym (found .fault) ∙ good)
+
+    small : leb (number v) 0xfffffffe ≡ true
+    small = go (leb (number v) 0xfffffffe) (neither .1)
+      where
+        go : (b : Bool) → _≡_ {A = ℕ} (pick b 0 12) 0 → b ≡ true
+        go true e = refl
+        go false e = absurd (omega arith)
+
+    pub phandle-zero : read .number ≡ 0 → {phandles : List ℕ} {n : ℕ} {r : CellRead} → r ≡ noCell OutOfRange → PhandleIs phandles n v r
+    phandle-zero z e = rw e (record {
+      judged = λ before y k at. phandle-judged before v at (rw (neither .0, zero-phandle v (sym (is .given) ∙ g) (sym (is .number) ∙ z)));
+      cell = λ z. absurd (omega arith);
+    })
+
+    module _ (z : read .number ≡ 0 → ⊥) (phandles : List ℕ) {n i : ℕ} (f : FirstThat (notedAt phandles (read .number)) n i) where
+      fits : read .number < 0x100000000
+      fits = omega (arith, is .number, leb-true (number v) 0xfffffffe small)
+
+      fault-is : (before : List Node) {b : Bool} → some (carries (read .number)) before ≡ b → _≡_ {A = ℕ} (pick (not b) 0 9) (phandleFault before v)
+      fault-is before e =
+          rw (neither .0, good-phandle v (λ y. z (is .number ∙ y)) small, repeated before v (sym (is .given) ∙ g) (sym (is .number)), e)
+
+      pub phandle-again : i < n → {r : CellRead} → r ≡ noCell Repeated → PhandleIs phandles n v r
       phandle-again m e = rw e (record {
-        judged = λ before y k at. judged 9 before at (first-right (numberOf (read .refusal)) 9 good)
-            (λ z. rw (again before ∙ noted-there phandles p f l before y k m) (judged-pick false 9 at (omega arith)));
+        judged = λ before y k at.
+            phandle-judged before v at (fault-is before (noted-there phandles (read .number) f fits before y k m));
         cell = λ z. absurd (omega arith);
       })
 
       pub phandle-new : n ≤ i → PhandleIs phandles n v read
       phandle-new m = record {
-        judged = λ before y k at. judged 0 before at (first-none (numberOf (read .refusal)))
-            (λ z. rw (again before ∙ noted-nowhere phandles p f l before y k m) (judged-pick true 9 at (omega arith)));
+        judged = λ before y k at.
+            phandle-judged before v at (good ∙ fault-is before (noted-nowhere phandles (read .number) f fits before y k m));
         cell = found .cell;
       }

@@ -1,38 +1,31 @@
 -- The reading of an accepted tree, by what the walk noted: which check decides. Assumes nothing.
 use mathlib.Core.Path.{_≡_, refl, sym, ap, _∙_}
-use mathlib.Core.Bool.{true, false}
-use mathlib.Core.List.{List, [], _∷_, _++_, append-nil, append-assoc}
+use mathlib.Core.List.{List, [], _∷_, _++_, append-assoc}
 use Prim.Native.Nat.{ℕ, zero, suc, _+_, _<_, _≤_, min}
 use native.Mathlib.Omega.{arith}
 use borrow.Author.Tests.{le-leb, lt-leb}
-use lib.ListN.{length, getD, length-append}
+use lib.ListN.{length, getD}
 use Rattle.cells.specs.Strings.{textAt}
 use Rattle.refusal.specs.Refusal.{Fault, numberOf, Placed, placed, refuseAt, fault}
 use Rattle.refusal.specs.Checks.{Check, firstFault}
 use Rattle.header.specs.declared.Blocks.{Blocks}
 use Rattle.header.specs.Header.{largestTree}
 use Rattle.record.specs.declared.Record.{Record}
-use Rattle.record.specs.Record.{mostFeatures, noFeatures}
+use Rattle.record.specs.Record.{noFeatures}
 use Rattle.walk.specs.declared.Containers.{Containers}
 use Rattle.walk.specs.Containers.{firstTwo}
-use Rattle.reader.specs.declared.nodes.Features.{Features}
 use Rattle.reader.specs.declared.cell.CellRead.{CellRead}
-use Rattle.reading.specs.Nodes.{Node, childrenAt, children}
-use Rattle.reading.specs.Values.{Value, missing, value, valueOf, number}
+use Rattle.reading.specs.Nodes.{Node, children}
 use Rattle.reading.specs.Features.{inOrder, nameChecks, featureChecks}
 use Rattle.reading.specs.Dependencies.{carrierChecks}
 use Rattle.reading.specs.Reading.{nodeAt, containersOf, containerChecks, containerProperties, countChecks, readChecks, recordOf, readAccepted}
 use Rattle.reading.specs.Ends.{AllHold, FirstFailing}
-use Rattle.reader.specs.Parts.{behindOf, Alike, noPlace, sameNames, FirstRepeated, Gathers, AtPlaces, ContainerIs, ReadsContainer, Contains, readFeatures}
-use Rattle.reading.specs.Resolved.{cellOf}
-use Rattle.record.specs.Cells.{numberIn}
+use Rattle.reader.specs.Parts.{behindOf, Alike, ContainerIs, ReadsContainer, Opens, readChildren}
 use Rattle.walk.specs.Walk.{nameIn, treeTokens}
 use Rattle.walk.specs.Containers.{containerName}
 use Rattle.reading.proofs.Places.{node-within, children-within, containers-within}
 use Rattle.reading.proofs.Containers.{offsets}
-use Rattle.reader.proofs.GatherLaws.{node-seam}
 use Rattle.reader.proofs.Located.{Located, containers-located}
-use Rattle.reader.proofs.RepeatLaws.{names-differ, names-repeat}
 use Rattle.reading.proofs.CheckLaws.{fail-left, fail-right, fail-here, hold-skips, fail-decides}
 use Rattle.reading.proofs.WalkedLaws.{Walked}
 
@@ -54,34 +47,20 @@ module _ (tree : List ℕ) (b : Blocks) where
   abbrev container : Node
   container = nodeAt all 0
 
-  abbrev last : List (Check Fault)
-  last = inOrder featureChecks [] (children container) ++ carrierChecks (children container) (children container)
+  abbrev behindProperties : List (Check Fault)
+  behindProperties =
+      countChecks (children container)
+      ++ (inOrder nameChecks [] (children container)
+      ++ (inOrder featureChecks [] (children container) ++ carrierChecks (children container) (children container)))
 
-  abbrev behindCount : List (Check Fault)
-  behindCount = inOrder nameChecks [] (children container) ++ last
-
-  in-order : readChecks (b .start) all ≡ containerChecks (b .start) all ++ (containerProperties container ++ (countChecks (children container) ++ behindCount))
-  unfolding readChecks
-  in-order =
-      ap (λ (l : List (Check Fault)). containerChecks (b .start) all ++ (containerProperties container ++ (countChecks (children container) ++ l)))
-      (append-assoc (inOrder nameChecks [] (children container)) (inOrder featureChecks [] (children container)) (carrierChecks (children container) (children container)))
-
-  decides : {n p : ℕ} → FirstFailing (containerChecks (b .start) all ++ (containerProperties container ++ (countChecks (children container) ++ behindCount))) n p
-      → {x : Placed Record} → x ≡ refuseAt noFeatures (fault n p) → x ≡ readAccepted tree b
-  decides f e =
-      e
-      ∙ sym (fail-decides (refuseAt noFeatures) _ (placed (recordOf container)) f)
-      ∙ sym (ap (λ (l : List (Check Fault)). firstFault (refuseAt noFeatures) l (placed (recordOf container))) in-order)
+  decides : {n p : ℕ} → FirstFailing (readChecks (b .start) all) n p → {x : Placed Record} → x ≡ refuseAt noFeatures (fault n p) → x ≡ readAccepted tree b
+  decides f e = e ∙ sym (fail-decides (refuseAt noFeatures) _ (placed (recordOf container)) f)
 
   -- the container's children begin within the structure block
   child-within : (i : ℕ) → nodeAt (children container) i .at ≤ b .end
   child-within i =
       let first = node-within (b .end) all 0 (containers-within (b .end) containerName tree (nameIn tree b) (b .start)) in
       node-within (b .end) (children container) i (children-within (b .end) 0 (container .behind) (first .1)) .0
-
-number-given : (v : Value) → numberIn (cellOf v) ≡ number v
-number-given missing = refl
-number-given (value bs) = refl
 
 module _ {tree : List ℕ} {b : Blocks} {found : Containers} (w : Walked tree b found) where
   counted : found .count ≡ min 2 (length (all tree b))
@@ -97,11 +76,13 @@ module _ {tree : List ℕ} {b : Blocks} {found : Containers} (w : Walked tree b 
   second-at = offset-at (all tree b) 1 ∙ sym (ap (λ (f : Containers). f .second) (w .noted))
 
   pub none-found : {x : Placed Record} → found .count ≡ 0 → x ≡ refuseAt noFeatures (fault 10 (b .start)) → x ≡ readAccepted tree b
+  unfolding readChecks
   none-found z e =
       let l : length (all tree b) < 1 = omega (arith, counted) in
       decides tree b (fail-left (containerChecks (b .start) (all tree b)) _ (fail-left (_ ∷ []) _ (fail-here 10 (b .start) (lt-leb 1 (length (all tree b)) l)))) e
 
   pub two-found : {x : Placed Record} → (found .count ≡ 0 → ⊥) → (found .count ≡ 1 → ⊥) → x ≡ refuseAt noFeatures (fault 9 (found .second)) → x ≡ readAccepted tree b
+  unfolding readChecks
   two-found z o e =
       let l : 1 ≤ length (all tree b) = omega (arith, counted) in
       let k : 1 < length (all tree b) = omega (arith, counted) in
@@ -133,76 +114,23 @@ module _ {tree : List ℕ} {b : Blocks} {found : Containers} (w : Walked tree b 
 
         pub container-refused : {x : Placed Record} → (numberOf (isa .refusal) ≡ 0 → ⊥) → x ≡ refuseAt noFeatures (fault (numberOf (isa .refusal)) (found .first))
             → x ≡ readAccepted tree b
+        unfolding readChecks
         container-refused z q =
             decides tree b
             (fail-right (containerChecks (b .start) (all tree b)) _ one-holds (fail-left (containerProperties (container tree b)) _ (is .judged .fail z)))
             (rw first-at q)
 
-        module _ (z : numberOf (isa .refusal) ≡ 0) {fs : Features} (f : Gathers tree b (childrenAt 0 (treeTokens tree b first)) fs) where
-          front : {n p : ℕ} {x : Placed Record} → FirstFailing (countChecks (children (container tree b)) ++ behindCount tree b) n p → x ≡ refuseAt noFeatures (fault n p)
-              → x ≡ readAccepted tree b
-          front h =
-              decides tree b
-              (fail-right (containerChecks (b .start) (all tree b)) _ one-holds (fail-right (containerProperties (container tree b)) _ (is .judged .hold z) h))
+        module _ (z : numberOf (isa .refusal) ≡ 0) where
+          pub opened : Opens tree b (isa .number) first (container tree b)
+          opened = record { like = alike; isa = is .isa z; low = λ i. omega (arith, child-within tree b i, first-within .1) }
 
-          gathered : children (container tree b) ≡ f .taken ++ f .others
-          gathered = alike .nodes 0 ∙ f .split
-
-          pub too-many : {x : Placed Record} → fs .more ≡ true → x ≡ refuseAt noFeatures (fault 8 (fs .over)) → x ≡ readAccepted tree b
-          too-many m q =
-              let o = f .over m in
-              let n = o .1 .0 in
-              let rest = o .1 .1 .0 in
-              let s : children (container tree b) ≡ f .taken ++ n ∷ rest = gathered ∙ ap (λ (l : List Node). f .taken ++ l) (o .1 .1 .1) in
-              let l : mostFeatures < length (children (container tree b)) = rw s (omega (arith, length-append (f .taken) (n ∷ rest), o .0)) in
-              let there : nodeAt (children (container tree b)) mostFeatures .at ≡ fs .over =
-              rw (s, ← (o .0)) (ap (λ (m : Node). m .at) (node-seam (f .taken) n rest) ∙ o .1 .1 .2) in
-              front
-              (fail-left (countChecks (children (container tree b))) _
-              (fail-here 8 (nodeAt (children (container tree b)) mostFeatures .at) (lt-leb (length (children (container tree b))) mostFeatures l)))
-              (rw there q)
-
-          module _ (m : fs .more ≡ false) where
-            same : children (container tree b) ≡ f .taken
-            same = gathered ∙ ap (λ (l : List Node). f .taken ++ l) (f .whole m) ∙ append-nil (f .taken)
-
-            few : length (children (container tree b)) ≤ mostFeatures
-            few = rw same (f .few)
-
-            places : AtPlaces tree b fs (children (container tree b))
-            places = record {
-              count = f .count ∙ ap length (sym same);
-              few = few;
-              places = rw same (f .nodes);
-              low = λ i l. omega (arith, child-within tree b i, first-within .1);
-            }
-
-            count-holds : AllHold (countChecks (children (container tree b)))
-            count-holds = (le-leb (length (children (container tree b))) mostFeatures few, tt)
-
-            pub name-repeated : {x : Placed Record} {later : ℕ} → FirstRepeated (sameNames tree (b .end) (fs .nodes)) (fs .count) later → later < fs .count
-                → x ≡ refuseAt noFeatures (fault 9 (getD (fs .nodes) later noPlace .at))
-                → x ≡ readAccepted tree b
-            name-repeated {later = later} r l =
-                front
-                (fail-right (countChecks (children (container tree b))) _ count-holds
-                (fail-left (inOrder nameChecks [] (children (container tree b))) (last tree b) (names-repeat tree b fs (children (container tree b)) places later l r)))
-
-            pub contained : {k : ℕ} → k ≡ numberIn (isa .cell) → Contains tree b k fs (container tree b)
-            contained q = record { nodes = places; isa = q ∙ ap numberIn (is .isa z) ∙ number-given (valueOf (container tree b) "isa") }
-
-            pub all-read : {x : Placed Record} {later : ℕ} → FirstRepeated (sameNames tree (b .end) (fs .nodes)) (fs .count) later → fs .count ≤ later
-                → x ≡ readFeatures (container tree b)
-                → x ≡ readAccepted tree b
-            unfolding readFeatures
-            all-read {later = later} r l q =
-                let k : later ≡ fs .count = omega (arith, r .within) in
-                let d = names-differ tree b fs (children (container tree b)) places (rw k at r) in
-                let skip : (cs ds : List (Check Fault)) → AllHold cs → firstFault (refuseAt noFeatures) ds (placed (recordOf (container tree b))) ≡ firstFault (refuseAt noFeatures) (cs ++ ds) (placed (recordOf (container tree b))) =
-                λ cs ds h. sym (hold-skips (refuseAt noFeatures) cs ds (placed (recordOf (container tree b))) h) in
-                q
-                ∙ skip (inOrder nameChecks [] (children (container tree b))) (last tree b) d
-                ∙ skip (countChecks (children (container tree b))) (behindCount tree b) count-holds
-                ∙ skip (containerProperties (container tree b)) _ (is .judged .hold z)
-                ∙ skip (containerChecks (b .start) (all tree b)) _ one-holds
-                ∙ sym (ap (λ (l : List (Check Fault)). firstFault (refuseAt noFeatures) l (placed (recordOf (container tree b)))) (in-order tree b))
+          pub children-read : {x : Placed Record} → x ≡ readChildren (container tree b) → x ≡ readAccepted tree b
+          unfolding readChecks readChildren
+          children-read q =
+              q
+              ∙ sym (hold-skips (refuseAt noFeatures) (containerProperties (container tree b)) (behindProperties tree b) (placed (recordOf (container tree b))) (is .judged .hold z))
+              ∙ sym (hold-skips (refuseAt noFeatures) (containerChecks (b .start) (all tree b)) _ (placed (recordOf (container tree b))) one-holds)
+              ∙ sym
+              (ap
+              (λ (l : List (Check Fault)). firstFault (refuseAt noFeatures) (containerChecks (b .start) (all tree b) ++ (containerProperties (container tree b) ++ (countChecks (children (container tree b)) ++ l))) (placed (recordOf (container tree b))))
+              (append-assoc (inOrder nameChecks [] (children (container tree b))) (inOrder featureChecks [] (children (container tree b))) (carrierChecks (children (container tree b)) (children (container tree b)))))

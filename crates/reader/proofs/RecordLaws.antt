@@ -13,24 +13,20 @@ use Rattle.cells.proofs.Rows.{padded-more}
 use Rattle.refusal.specs.Refusal.{numberOf, Placed, placed, refuseAt, fault}
 use Rattle.header.specs.declared.Blocks.{Blocks}
 use Rattle.header.specs.Header.{largestTree}
-use Rattle.record.specs.declared.Property.the-variants.{Phandle}
-use Rattle.record.specs.Cells.{cell}
-use Rattle.reading.specs.Resolved.{cellIn}
-use Rattle.reading.proofs.Cells.{cell-read}
 use Rattle.record.specs.declared.Record.{Record}
 use Rattle.record.specs.declared.Feature.{Feature}
 use Rattle.record.specs.Record.{mostFeatures, mostDependencies, noFeature, noFeatures}
 use Rattle.reader.specs.declared.nodes.Features.{Features}
 use Rattle.reader.specs.declared.feature.FeatureRead.{FeatureRead}
 use Rattle.reader.specs.declared.feature.FeaturesRead.{FeaturesRead}
-use Rattle.reader.specs.declared.dependencies.SlotsRead.{SlotsRead}
+use Rattle.reader.specs.declared.dependencies.Finding.{Finding}
 use Rattle.reading.specs.Nodes.{Node, children}
 use Rattle.reading.specs.Values.{valueOf, cellsOf}
 use Rattle.reading.specs.Features.{inOrder, featureChecks, featureOf}
 use Rattle.reading.specs.Dependencies.{carrierChecks}
 use Rattle.reading.specs.Reading.{nodeAt, recordOf}
 use Rattle.reading.specs.Ends.{AllHold}
-use Rattle.reader.specs.Parts.{noPlace, notedCell, notedOf, ArePhandles, AreFeatures, FeatureIs, ReadsFeature, AtPlaces, FeaturesAre, Known, SlotsAre, Contains, readFeatures}
+use Rattle.reader.specs.Parts.{noPlace, notedOf, ArePhandles, AreFeatures, FeatureIs, ReadsFeature, AtPlaces, FeaturesAre, Known, SlotsAre, Contains, readFeatures}
 use Rattle.reading.proofs.CheckLaws.{hold-both, fail-left, fail-right, hold-decide, fail-decides}
 use Rattle.reading.proofs.OrderLaws.{order-holds, order-fails}
 
@@ -58,11 +54,6 @@ row-more m z g nodes i l few {row} {x} e k =
     let q : set (padded m z xs) (length xs) (g (nodeAt nodes i)) ≡ padded m z (xs ++ g (nodeAt nodes i) ∷ []) = padded-more m z xs (g (nodeAt nodes i)) (omega arith) in
     rw (e, k, add-one i, take-node nodes i l, map-more g (take i nodes) (nodeAt nodes i)) (subst (λ (j : ℕ). set (padded m z xs) j (g (nodeAt nodes i)) ≡ padded m z (xs ++ g (nodeAt nodes i) ∷ [])) n q)
 
--- what is noted of a feature
-noted-read : (n : Node) {f : Feature} {x : ℕ} → f ≡ featureOf n → x ≡ notedCell (cell f Phandle) → x ≡ notedOf n
-unfolding cellIn
-noted-read n e q = q ∙ ap (λ (f : Feature). notedCell (cell f Phandle)) e ∙ ap notedCell (cell-read n Phandle)
-
 -- the features before a position were read
 pub record ReadBelow (nodes : List Node) (i : ℕ) (fs : List Feature) (ps : List ℕ) : Type 0 where
   pub within : i ≤ length nodes
@@ -85,20 +76,22 @@ module _ {tree : List ℕ} {b : Blocks} {fs : Features} {nodes : List Node} (a :
       omega (arith, a .low i k, a .places i k .offset)
 
   module _ {i : ℕ} {features : List Feature} {phandles : List ℕ} (w : ReadBelow nodes i features phandles) where
-    module _ (l : i < fs .count) {read : FeatureRead} (r : ReadsFeature tree b (getD (fs .nodes) i noPlace) phandles i read) where
+    module _ (l : i < fs .count) {new : List ℕ} {read : FeatureRead} (r : ReadsFeature tree b (getD (fs .nodes) i noPlace) phandles new i read) where
       inside : i < length nodes
       inside = omega (arith, a .count)
 
-      here : FeatureIs (take i nodes) (nodeAt nodes i) read
-      here = r (take i nodes) (nodeAt nodes i) (a .places i inside) (w .phandles) (sym (length-take-le i nodes (omega (arith, inside))))
+      long : length (take i nodes) ≡ i
+      long = length-take-le i nodes (omega (arith, inside))
 
-      pub below-more : numberOf (read .refusal) ≡ 0 → {noted : ℕ} → noted ≡ notedCell (cell (read .feature) Phandle)
-          → ReadBelow nodes (i + 1) (set features i (read .feature)) (set phandles i noted)
-      below-more z e = record {
+      here : FeatureIs (take i nodes) (nodeAt nodes i) phandles new read
+      here = r (take i nodes) (nodeAt nodes i) (a .places i inside) (w .phandles) (sym long)
+
+      pub below-more : numberOf (read .refusal) ≡ 0 → ReadBelow nodes (i + 1) (set features i (read .feature)) new
+      below-more z = record {
         within = omega (arith, inside);
         hold = λ j h. go j h (decLt j i);
         features = row-more mostFeatures noFeature featureOf nodes i inside (a .few) (w .features) (here .feature z);
-        phandles = row-more mostFeatures 0 notedOf nodes i inside (a .few) (w .phandles) (noted-read (nodeAt nodes i) (here .feature z) e);
+        phandles = here .phandle z ∙ rw long (row-more mostFeatures 0 notedOf nodes i inside (a .few) (w .phandles) refl);
       }
         where
           go : (j : ℕ) → j < i + 1 → Dec (j < i) → AllHold (featureChecks (take j nodes) (nodeAt nodes j))
@@ -107,31 +100,30 @@ module _ {tree : List ℕ} {b : Blocks} {fs : Features} {nodes : List Node} (a :
 
       pub below-refused : (numberOf (read .refusal) ≡ 0 → ⊥) → {all : FeaturesRead} → all .refusal ≡ read .refusal
           → all .place ≡ getD (fs .nodes) i noPlace .at
-          → FeaturesAre nodes all
+          → FeaturesAre nodes new all
       below-refused z {all} e p = record {
         judged = record {
           hold = λ q. absurd (z (sym (ap numberOf e) ∙ q));
           fail = λ q. rw (e, p, ← (a .places i inside .offset)) (order-fails featureChecks nodes i inside (w .hold) (here .judged .fail z));
         };
         features = λ q. absurd (z (sym (ap numberOf e) ∙ q));
-        phandles = λ q. absurd (z (sym (ap numberOf e) ∙ q));
+        noted = λ q. absurd (z (sym (ap numberOf e) ∙ q));
         few = λ q. absurd (z (sym (ap numberOf e) ∙ q));
       }
 
-    pub below-done : fs .count ≤ i → {all : FeaturesRead} → numberOf (all .refusal) ≡ 0 → all .features ≡ features → all .phandles ≡ phandles
-        → FeaturesAre nodes all
-    below-done l z f p =
+    pub below-done : fs .count ≤ i → {all : FeaturesRead} → numberOf (all .refusal) ≡ 0 → all .features ≡ features → FeaturesAre nodes phandles all
+    below-done l z f =
         let t : take i nodes ≡ nodes = take-all i nodes (omega (arith, a .count)) in
         let h : (j : ℕ) → j < length nodes → AllHold (featureChecks (take j nodes) (nodeAt nodes j)) = λ j k. w .hold j (omega (arith, a .count)) in
         record {
           judged = record { hold = λ q. order-holds featureChecks nodes h; fail = λ q. absurd (q z) };
           features = λ q. f ∙ w .features ∙ ap (λ (l : List Node). padded mostFeatures noFeature (map featureOf l)) t;
-          phandles = λ q. p ∙ w .phandles ∙ ap (λ (l : List Node). padded mostFeatures 0 (map notedOf l)) t;
+          noted = λ q. w .phandles ∙ ap (λ (l : List Node). padded mostFeatures 0 (map notedOf l)) t;
           few = λ q j k. few-here (take j nodes) (nodeAt nodes j) (h j k);
         }
 
 -- the features, and then their dependencies
-module _ {tree : List ℕ} {b : Blocks} {isa : ℕ} {fs : Features} {c : Node} (g : Contains tree b isa fs c) {read : FeaturesRead} (r : FeaturesAre (children c) read) where
+module _ {tree : List ℕ} {b : Blocks} {isa : ℕ} {fs : Features} {c : Node} (g : Contains tree b isa fs c) {phandles : List ℕ} {read : FeaturesRead} (r : FeaturesAre (children c) phandles read) where
   pub features-refused : (numberOf (read .refusal) ≡ 0 → ⊥) → {x : Placed Record} → x ≡ refuseAt noFeatures (fault (numberOf (read .refusal)) (read .place))
       → x ≡ readFeatures c
   unfolding readFeatures
@@ -140,27 +132,27 @@ module _ {tree : List ℕ} {b : Blocks} {isa : ℕ} {fs : Features} {c : Node} (
       ∙ sym (fail-decides (refuseAt noFeatures) _ _ (fail-left (inOrder featureChecks [] (children c)) (carrierChecks (children c) (children c)) (r .judged .fail z)))
 
   module _ (z : numberOf (read .refusal) ≡ 0) where
-    pub features-known : Known tree b fs read (children c)
-    features-known = record { at = g .nodes; features = r .features z; phandles = r .phandles z; few = r .few z }
+    pub features-known : Known tree b fs phandles (children c)
+    features-known = record { at = g .nodes; noted = r .noted z; few = r .few z }
 
-    module _ {slots : SlotsRead} (s : SlotsAre (children c) slots) where
-      pub slots-refused : (numberOf (slots .refusal) ≡ 0 → ⊥) → {x : Placed Record}
-          → x ≡ refuseAt noFeatures (fault (numberOf (slots .refusal)) (slots .place))
+    module _ {slots : List ℕ} {found : Finding} (s : SlotsAre (children c) slots found) where
+      pub slots-refused : (numberOf (found .refusal) ≡ 0 → ⊥) → {v : Record} → v ≡ noFeatures → {x : Placed Record}
+          → x ≡ record { number = numberOf (found .refusal); place = found .place; value = v }
           → x ≡ readFeatures c
       unfolding readFeatures
-      slots-refused q e =
+      slots-refused q n e =
           e
+          ∙ ap (λ (v : Record). refuseAt v (fault (numberOf (found .refusal)) (found .place))) n
           ∙ sym
           (fail-decides (refuseAt noFeatures) _ _
           (fail-right (inOrder featureChecks [] (children c)) (carrierChecks (children c) (children c)) (r .judged .hold z) (s .judged .fail q)))
 
-      pub slots-read : numberOf (slots .refusal) ≡ 0
-          → {x : Placed Record} → x ≡ placed (record { isa = isa; count = fs .count; features = read .features; slots = slots .slots }) → x ≡ readFeatures c
+      pub slots-read : numberOf (found .refusal) ≡ 0
+          → placed (record { isa = isa; count = fs .count; features = read .features; slots = slots }) ≡ readFeatures c
       unfolding readFeatures recordOf
-      slots-read q e =
-          e
-          ∙ same
+      slots-read q =
+          same
           ∙ sym (hold-decide (refuseAt noFeatures) _ _ (hold-both (inOrder featureChecks [] (children c)) (carrierChecks (children c) (children c)) (r .judged .hold z) (s .judged .hold q)))
         where
-          same : _≡_ {A = Placed Record} (placed (record { isa = isa; count = fs .count; features = read .features; slots = slots .slots })) (placed (recordOf c))
-          same = rw (g .isa, g .nodes .count, r .features z, s .slots q)
+          same : _≡_ {A = Placed Record} (placed (record { isa = isa; count = fs .count; features = read .features; slots = slots })) (placed (recordOf c))
+          same = rw (g .isa, g .nodes .count, r .features z, s .found q)

@@ -1,15 +1,18 @@
 -- The value of a property by the token at a place. Assumes nothing.
 use mathlib.Core.Path.{_≡_, refl, sym, _∙_}
 use mathlib.Core.Bool.{Bool, true, false}
-use mathlib.Core.List.{List}
+use mathlib.Core.List.{List, [], _∷_}
 use Prim.Native.Nat.{ℕ, _+_, _≤_}
 use native.Mathlib.Omega.{arith}
 use lib.ListN.{length}
+use types.Run.{OneOf, miss}
+use denote.Enum.Declared.{tagOf}
 use Rattle.cells.specs.Strings.{Text, ended}
 use Rattle.names.specs.Names.{sameText}
 use Rattle.tokens.specs.declared.Cursor.{Cursor}
 use Rattle.tokens.specs.declared.Step.{Step}
 use Rattle.tokens.specs.declared.Step.the-variants.{BeginNode, EndNode, Property, Nop, End, Fault}
+use Rattle.tokens.proofs.Step.{the-type}
 use Rattle.tokens.specs.Steps.{padded, stepAt}
 use Rattle.tokens.specs.Tokens.{tokens}
 use Rattle.tokens.proofs.TokenList.{tokens-step, follow, view, Is, begins, ends, holds, skips, stops, cut, unknown, none, seen}
@@ -39,21 +42,15 @@ module _ (s : List ℕ) (stop : ℕ) (names : ℕ → Text) (n : List ℕ) (at :
   unfolding valueIn
   value-nop e = rw (tokens-step s stop names at e)
 
-  pub value-begin : {p : ℕ} {c : Cursor} → stepAt s stop at ≡ BeginNode p c → valueIn n (tokens s stop names at) ≡ missing
+  -- neither a property nor a no-operation
+  pub value-none : (x : Step) → x ≡ stepAt s stop at → OneOf (0 ∷ 1 ∷ 4 ∷ 5 ∷ []) (tagOf the-type x) → valueIn n (tokens s stop names at) ≡ missing
   unfolding valueIn
-  value-begin e = rw (tokens-step s stop names at e)
-
-  pub value-end-node : {p : ℕ} {c : Cursor} → stepAt s stop at ≡ EndNode p c → valueIn n (tokens s stop names at) ≡ missing
-  unfolding valueIn
-  value-end-node e = rw (tokens-step s stop names at e)
-
-  pub value-end : {p : ℕ} → stepAt s stop at ≡ End p → valueIn n (tokens s stop names at) ≡ missing
-  unfolding valueIn
-  value-end e = rw (tokens-step s stop names at e)
-
-  pub value-fault : {p : ℕ} → stepAt s stop at ≡ Fault p → valueIn n (tokens s stop names at) ≡ missing
-  unfolding valueIn
-  value-fault e = rw (tokens-step s stop names at e)
+  value-none (BeginNode p c) e k = rw (tokens-step s stop names at (sym e))
+  value-none (EndNode p c) e k = rw (tokens-step s stop names at (sym e))
+  value-none (Property p v l o c) e k = absurd (miss (0 ∷ 1 ∷ 4 ∷ 5 ∷ []) 2 tt k)
+  value-none (Nop p c) e k = absurd (miss (0 ∷ 1 ∷ 4 ∷ 5 ∷ []) 3 tt k)
+  value-none (End p) e k = rw (tokens-step s stop names at (sym e))
+  value-none (Fault p) e k = rw (tokens-step s stop names at (sym e))
 
   module _ {p v l o : ℕ} {c : Cursor} (e : stepAt s stop at ≡ Property p v l o c) {r : Bool} (k : r ≡ sameText (names o) (ended n)) where
     pub value-other : r ≡ false → valueIn n (tokens s stop names at) ≡ valueIn n (tokens s stop names (c .at))

@@ -3,10 +3,10 @@ use Prim.Native.Nat.{ℕ, zero, suc, _+_, _*_, _≤_, _<_}
 use mathlib.Core.Path.{_≡_}
 use mathlib.Core.Bool.{Bool, true, false}
 use mathlib.Core.List.{List, [], _∷_, _++_, map}
-use lib.ListN.{length, take, drop, getD}
+use lib.ListN.{length, take, drop, getD, set}
 use Rattle.cells.specs.Strings.{Text, ended, unended, textAt}
 use Rattle.names.specs.Names.{sameText}
-use Rattle.tokens.specs.Tokens.{Token, beginNode, endNode, afterName}
+use Rattle.tokens.specs.Tokens.{Token, beginNode, afterName}
 use Rattle.header.specs.declared.Blocks.{Blocks}
 use Rattle.walk.specs.Walk.{treeTokens}
 use Rattle.header.specs.Header.{largestTree}
@@ -16,11 +16,11 @@ use Rattle.cells.specs.Strings.{isString}
 use Rattle.record.specs.declared.Record.{Record}
 use Rattle.record.specs.declared.Feature.{Feature}
 use Rattle.record.specs.Record.{mostFeatures, mostDependencies, slotCount, noFeature, noFeatures}
-use Rattle.record.specs.Cells.{cell, lowBit, numberIn}
 use Rattle.characters.specs.Characters.{bytes}
 use Rattle.positions.specs.Below.{oneIf}
+use Rattle.positions.specs.Bits.{bit}
 use Rattle.reader.specs.declared.nodes.Move.{Move}
-use Rattle.reader.specs.declared.nodes.Move.the-variants.{Begin, End, Pass, Stop}
+use Rattle.reader.specs.declared.nodes.Move.the-variants.{Child, Past}
 use Rattle.reader.specs.declared.nodes.NodePlace.{NodePlace}
 use Rattle.reader.specs.declared.nodes.Features.{Features}
 use Rattle.reader.specs.declared.nodes.Held.{Held}
@@ -30,21 +30,20 @@ use Rattle.refusal.specs.Refusal.{Fault, Placed, placed, refuseAt, numberOf}
 use Rattle.refusal.specs.Checks.{Check, firstFault}
 use Rattle.refusal.specs.declared.Refusal.{Refusal}
 use Rattle.refusal.specs.declared.Refusal.the-variants.{OutOfRange}
-use Rattle.record.specs.declared.Cell.{Cell}
-use Rattle.record.specs.declared.Cell.the-variants.{Absent, Given}
 use Rattle.tokens.specs.Steps.{pick}
-use lib.Dec.{eqb, ltb}
+use lib.Dec.{eqb, leb}
 use Rattle.reader.specs.declared.cell.CellRead.{CellRead}
-use Rattle.reading.specs.Resolved.{cellOf, countOf}
-use Rattle.reading.specs.Reading.{nodeAt, containerProperties, recordOf}
-use Rattle.reading.specs.Values.{Value, missing, value, valueIn, valueOf, number, cellsOf}
-use Rattle.reading.specs.Features.{inOrder, bitChecks, phandleChecks, dependenciesChecks, featureChecks, featureOf}
+use Rattle.reading.specs.Reading.{nodeAt, containerProperties, countChecks, recordOf}
+use Rattle.reading.specs.Values.{Value, missing, value, valueIn, valueOf, isGiven, number, cellsOf}
+use Rattle.reading.specs.Features.{inOrder, nameChecks, bitChecks, phandleChecks, dependenciesChecks, featureChecks, featureOf}
 use Rattle.reading.specs.Dependencies.{carrier, slotOf, cellChecks, carrierChecks, slotsOf}
 use Rattle.reading.specs.Ends.{AllHold, FirstFailing}
+use Rattle.reader.specs.declared.feature.SupportCells.{SupportCells}
+use Rattle.reader.specs.declared.feature.BitCells.{BitCells}
 use Rattle.reader.specs.declared.feature.FeatureCells.{FeatureCells}
 use Rattle.reader.specs.declared.feature.FeatureRead.{FeatureRead}
 use Rattle.reader.specs.declared.feature.FeaturesRead.{FeaturesRead}
-use Rattle.reader.specs.declared.dependencies.SlotsRead.{SlotsRead}
+use Rattle.reader.specs.declared.dependencies.Finding.{Finding}
 
 -- where a value lies in a tree
 pub record Lies (tree : List ℕ) (v : Value) (from size : ℕ) : Type 0 where
@@ -65,14 +64,12 @@ pub record Alike (ts us : List Token) : Type 0 where
   pub values : (n : List ℕ) → valueIn n ts ≡ valueIn n us
   pub nodes : (depth : ℕ) → childrenAt depth ts ≡ childrenAt depth us
 
--- what the token at a place is to the children of a node
-pub data Moved (tree : List ℕ) (b : Blocks) (at : ℕ) : Move → Type 0 where
-  begins : {t name next : ℕ} {ts : List Token} → treeTokens tree b at ≡ beginNode t (textAt tree name (b .end)) ∷ ts → Alike ts (treeTokens tree b next)
-      → at < next → Moved tree b at (Begin t name next)
-  ends : {t next : ℕ} → treeTokens tree b at ≡ endNode t ∷ treeTokens tree b next → at < next → Moved tree b at (End next)
-  passes : {next : ℕ} → ((depth : ℕ) → childrenAt depth (treeTokens tree b at) ≡ childrenAt depth (treeTokens tree b next)) → at < next
-      → Moved tree b at (Pass next)
-  stops : ((depth : ℕ) → childrenAt depth (treeTokens tree b at) ≡ []) → Moved tree b at Stop
+-- what the token at a place is to the children of a node, in as many nodes of its own
+pub data Moved (tree : List ℕ) (b : Blocks) (depth at : ℕ) : Move → Type 0 where
+  child : {t name next : ℕ} {ts : List Token} → depth ≡ 0 → treeTokens tree b at ≡ beginNode t (textAt tree name (b .end)) ∷ ts
+      → Alike ts (treeTokens tree b next) → at < next → Moved tree b depth at (Child t name next)
+  past : {d next : ℕ} → childrenAt depth (treeTokens tree b at) ≡ childrenAt d (treeTokens tree b next) → at < next → d ≤ next
+      → Moved tree b depth at (Past d next)
 
 abbrev pub noPlace : NodePlace
 noPlace = record { at = 0; name = 0; behind = 0 }
@@ -113,26 +110,23 @@ abbrev pub cellFault : Bool → Value → ℕ
 cellFault needed missing = pick needed 11 0
 cellFault needed (value bs) = pick (eqb (length bs) 4) 0 11
 
-abbrev pub badCell : Refusal → CellRead
-badCell refusal = record { refusal = refusal; cell = Absent }
+abbrev pub noCell : Refusal → CellRead
+noCell refusal = record { refusal = refusal; given = false; number = 0 }
+
+-- what a cell has of a value: whether it is given, and its number
+pub record Holds (v : Value) (r : CellRead) : Type 0 where
+  pub given : r .given ≡ isGiven v
+  pub number : r .number ≡ number v
 
 -- its refusal, and its cell where there is none; no cell where there is one
 pub record CellIs (needed : Bool) (v : Value) (r : CellRead) : Type 0 where
-  pub number : numberOf (r .refusal) ≡ cellFault needed v
-  pub cell : cellFault needed v ≡ 0 → r .cell ≡ cellOf v
-  pub refused : (cellFault needed v ≡ 0 → ⊥) → r .cell ≡ Absent
+  pub fault : numberOf (r .refusal) ≡ cellFault needed v
+  pub cell : cellFault needed v ≡ 0 → Holds v r
+  pub refused : (cellFault needed v ≡ 0 → ⊥) → (r .given ≡ false) × (r .number ≡ 0)
 
--- a cell refused where it is given and not from low to high: "0 to 63", "neither 0 nor all ones"
-abbrev pub rangeOf : ℕ → ℕ → CellRead → Cell → CellRead
-rangeOf low high c Absent = c
-rangeOf low high c (Given n) = pick (ltb n low) (badCell OutOfRange) (pick (ltb high n) (badCell OutOfRange) c)
-
-abbrev pub ifGood : ℕ → CellRead → CellRead → CellRead
-ifGood zero c good = good
-ifGood (suc n) c good = c
-
-unfoldable pub inRange : ℕ → ℕ → CellRead → CellRead
-inRange low high c = ifGood (numberOf (c .refusal)) c (rangeOf low high c (c .cell))
+-- a cell refused where its number is above another: "0 to 63", no "all ones"
+abbrev pub atMost : ℕ → CellRead → CellRead
+atMost high c = pick (leb (c .number) high) c (noCell OutOfRange)
 
 -- what some checks find: nothing, or the number and the place of the first that does not hold
 pub record Judged (cs : List (Check Fault)) (number place : ℕ) : Type 0 where
@@ -142,7 +136,8 @@ pub record Judged (cs : List (Check Fault)) (number place : ℕ) : Type 0 where
 -- the number of a node's dependencies
 pub record CountIs (v : Value) (r : CellRead) : Type 0 where
   pub judged : (at : ℕ) → Judged (dependenciesChecks at v) (numberOf (r .refusal)) at
-  pub cell : numberOf (r .refusal) ≡ 0 → r .cell ≡ countOf v
+  pub given : numberOf (r .refusal) ≡ 0 → r .given ≡ isGiven v
+  pub number : numberOf (r .refusal) ≡ 0 → r .number ≡ length (cellsOf v)
 
 -- the first position below n that passes a test; n where there is none
 pub record FirstThat (test : ℕ → Bool) (n r : ℕ) : Type 0 where
@@ -151,12 +146,11 @@ pub record FirstThat (test : ℕ → Bool) (n r : ℕ) : Type 0 where
   pub there : r < n → test r ≡ true
 
 -- what is noted of a feature's phandle: a number that no cell holds where there is none
-abbrev pub notedCell : Cell → ℕ
-notedCell Absent = 0x100000000
-notedCell (Given n) = n
+abbrev pub noted : Bool → ℕ → ℕ
+noted given n = pick given n 0x100000000
 
 abbrev pub notedOf : Node → ℕ
-notedOf n = notedCell (cellOf (valueOf n "phandle"))
+notedOf n = noted (isGiven (valueOf n "phandle")) (number (valueOf n "phandle"))
 
 -- the feature at a position carries a phandle
 unfoldable pub notedAt : List ℕ → ℕ → ℕ → Bool
@@ -172,24 +166,30 @@ AreFeatures features nodes = features ≡ padded mostFeatures noFeature (map fea
 -- a bit number
 pub record BitIs (needed : Bool) (v : Value) (r : CellRead) : Type 0 where
   pub judged : (at : ℕ) → Judged (bitChecks at needed v) (numberOf (r .refusal)) at
-  pub cell : numberOf (r .refusal) ≡ 0 → r .cell ≡ cellOf v
+  pub cell : numberOf (r .refusal) ≡ 0 → Holds v r
 
 -- a phandle behind the features of some nodes
 pub record PhandleIs (phandles : List ℕ) (n : ℕ) (v : Value) (r : CellRead) : Type 0 where
   pub judged : (before : List Node) → ArePhandles phandles before → n ≡ length before → (at : ℕ) → Judged (phandleChecks at before v) (numberOf (r .refusal)) at
-  pub cell : numberOf (r .refusal) ≡ 0 → r .cell ≡ cellOf v
+  pub cell : numberOf (r .refusal) ≡ 0 → Holds v r
 
 -- the cells of a feature's properties, each by itself
-pub record CellsAre (tree : List ℕ) (b : Blocks) (first : ℕ) (phandles : List ℕ) (n : ℕ) (r : FeatureCells) : Type 0 where
-  pub isa : CellIs true (valueIn (bytes "isa") (treeTokens tree b first)) (r .isa)
-  pub usable : CellIs true (valueIn (bytes "usable-privilege") (treeTokens tree b first)) (r .«usable_privilege»)
-  pub hv : CellIs false (valueIn (bytes "hv-support") (treeTokens tree b first)) (r .«hv_support»)
-  pub os : CellIs false (valueIn (bytes "os-support") (treeTokens tree b first)) (r .«os_support»)
-  pub hfscr : BitIs (lowBit (r .«hv_support» .cell)) (valueIn (bytes "hfscr-bit-nr") (treeTokens tree b first)) (r .«hfscr_bit_nr»)
-  pub fscr : BitIs (lowBit (r .«os_support» .cell)) (valueIn (bytes "fscr-bit-nr") (treeTokens tree b first)) (r .«fscr_bit_nr»)
-  pub hwcap : BitIs (lowBit (r .«usable_privilege» .cell)) (valueIn (bytes "hwcap-bit-nr") (treeTokens tree b first)) (r .«hwcap_bit_nr»)
-  pub phandle : PhandleIs phandles n (valueIn (bytes "phandle") (treeTokens tree b first)) (r .phandle)
-  pub dependencies : CountIs (valueIn (bytes "dependencies") (treeTokens tree b first)) (r .dependencies)
+pub record SupportIs (ts : List Token) (r : SupportCells) : Type 0 where
+  pub usable : CellIs true (valueIn (bytes "usable-privilege") ts) (r .«usable_privilege»)
+  pub hv : CellIs false (valueIn (bytes "hv-support") ts) (r .«hv_support»)
+  pub os : CellIs false (valueIn (bytes "os-support") ts) (r .«os_support»)
+
+pub record BitsAre (ts : List Token) (s : SupportCells) (r : BitCells) : Type 0 where
+  pub hfscr : BitIs (bit (s .«hv_support» .number) 0) (valueIn (bytes "hfscr-bit-nr") ts) (r .«hfscr_bit_nr»)
+  pub fscr : BitIs (bit (s .«os_support» .number) 0) (valueIn (bytes "fscr-bit-nr") ts) (r .«fscr_bit_nr»)
+  pub hwcap : BitIs (bit (s .«usable_privilege» .number) 0) (valueIn (bytes "hwcap-bit-nr") ts) (r .«hwcap_bit_nr»)
+
+pub record CellsAre (ts : List Token) (phandles : List ℕ) (n : ℕ) (r : FeatureCells) : Type 0 where
+  pub isa : CellIs true (valueIn (bytes "isa") ts) (r .isa)
+  pub support : SupportIs ts (r .support)
+  pub bits : BitsAre ts (r .support) (r .bits)
+  pub phandle : PhandleIs phandles n (valueIn (bytes "phandle") ts) (r .phandle)
+  pub dependencies : CountIs (valueIn (bytes "dependencies") ts) (r .dependencies)
 
 -- the first of two numbers that is a refusal
 abbrev pub firstOf : ℕ → ℕ → ℕ
@@ -199,52 +199,50 @@ firstOf (suc m) n = suc m
 abbrev pub refusalOf : FeatureCells → ℕ
 refusalOf c =
     firstOf (numberOf (c .isa .refusal))
-    (firstOf (numberOf (c .«usable_privilege» .refusal))
-    (firstOf (numberOf (c .«hv_support» .refusal))
-    (firstOf (numberOf (c .«os_support» .refusal))
-    (firstOf (numberOf (c .«hfscr_bit_nr» .refusal))
-    (firstOf (numberOf (c .«fscr_bit_nr» .refusal))
-    (firstOf (numberOf (c .«hwcap_bit_nr» .refusal))
+    (firstOf (numberOf (c .support .«usable_privilege» .refusal))
+    (firstOf (numberOf (c .support .«hv_support» .refusal))
+    (firstOf (numberOf (c .support .«os_support» .refusal))
+    (firstOf (numberOf (c .bits .«hfscr_bit_nr» .refusal))
+    (firstOf (numberOf (c .bits .«fscr_bit_nr» .refusal))
+    (firstOf (numberOf (c .bits .«hwcap_bit_nr» .refusal))
     (firstOf (numberOf (c .phandle .refusal)) (firstOf (numberOf (c .dependencies .refusal)) 0))))))))
-
-abbrev pub isGivenCell : Cell → Bool
-isGivenCell Absent = false
-isGivenCell (Given n) = true
 
 abbrev pub givenBits : FeatureCells → ℕ
 givenBits c =
-    oneIf (isGivenCell (c .isa .cell)) * 1
-    + oneIf (isGivenCell (c .«usable_privilege» .cell)) * 2
-    + oneIf (isGivenCell (c .«hv_support» .cell)) * 4
-    + oneIf (isGivenCell (c .«os_support» .cell)) * 8
-    + oneIf (isGivenCell (c .«hfscr_bit_nr» .cell)) * 16
-    + oneIf (isGivenCell (c .«fscr_bit_nr» .cell)) * 32
-    + oneIf (isGivenCell (c .«hwcap_bit_nr» .cell)) * 64
-    + oneIf (isGivenCell (c .phandle .cell)) * 128
-    + oneIf (isGivenCell (c .dependencies .cell)) * 256
+    oneIf (c .isa .given) * 1
+    + oneIf (c .support .«usable_privilege» .given) * 2
+    + oneIf (c .support .«hv_support» .given) * 4
+    + oneIf (c .support .«os_support» .given) * 8
+    + oneIf (c .bits .«hfscr_bit_nr» .given) * 16
+    + oneIf (c .bits .«fscr_bit_nr» .given) * 32
+    + oneIf (c .bits .«hwcap_bit_nr» .given) * 64
+    + oneIf (c .phandle .given) * 128
+    + oneIf (c .dependencies .given) * 256
 
 abbrev pub featureFrom : ℕ → FeatureCells → Feature
 featureFrom at c = record {
   offset = at;
   given = givenBits c;
-  isa = numberIn (c .isa .cell);
-  «usable_privilege» = numberIn (c .«usable_privilege» .cell);
-  «hv_support» = numberIn (c .«hv_support» .cell);
-  «os_support» = numberIn (c .«os_support» .cell);
-  «hfscr_bit_nr» = numberIn (c .«hfscr_bit_nr» .cell);
-  «fscr_bit_nr» = numberIn (c .«fscr_bit_nr» .cell);
-  «hwcap_bit_nr» = numberIn (c .«hwcap_bit_nr» .cell);
-  phandle = numberIn (c .phandle .cell);
-  dependencies = numberIn (c .dependencies .cell);
+  isa = c .isa .number;
+  «usable_privilege» = c .support .«usable_privilege» .number;
+  «hv_support» = c .support .«hv_support» .number;
+  «os_support» = c .support .«os_support» .number;
+  «hfscr_bit_nr» = c .bits .«hfscr_bit_nr» .number;
+  «fscr_bit_nr» = c .bits .«fscr_bit_nr» .number;
+  «hwcap_bit_nr» = c .bits .«hwcap_bit_nr» .number;
+  phandle = c .phandle .number;
+  dependencies = c .dependencies .number;
 }
 
--- one feature behind others: what its checks find, and the feature where they find nothing
-pub record FeatureIs (before : List Node) (n : Node) (r : FeatureRead) : Type 0 where
+-- one feature behind others: what its checks find, and the feature and what is noted of its phandle where they find nothing
+pub record FeatureIs (before : List Node) (n : Node) (old new : List ℕ) (r : FeatureRead) : Type 0 where
   pub judged : Judged (featureChecks before n) (numberOf (r .refusal)) (n .at)
   pub feature : numberOf (r .refusal) ≡ 0 → r .feature ≡ featureOf n
+  pub phandle : numberOf (r .refusal) ≡ 0 → new ≡ set old (length before) (notedOf n)
 
-abbrev pub ReadsFeature : List ℕ → Blocks → NodePlace → List ℕ → ℕ → FeatureRead → Type 0
-ReadsFeature tree b p phandles i r = (before : List Node) (n : Node) → IsNode tree b n p → ArePhandles phandles before → i ≡ length before → FeatureIs before n r
+abbrev pub ReadsFeature : List ℕ → Blocks → NodePlace → List ℕ → List ℕ → ℕ → FeatureRead → Type 0
+ReadsFeature tree b p old new i r =
+    (before : List Node) (n : Node) → IsNode tree b n p → ArePhandles old before → i ≡ length before → FeatureIs before n old new r
 
 -- places that are those of some nodes, at most 64 of them
 pub record AtPlaces (tree : List ℕ) (b : Blocks) (fs : Features) (nodes : List Node) : Type 0 where
@@ -260,14 +258,14 @@ abbrev pub FewEach : List Node → Type 0
 FewEach nodes = (i : ℕ) → i < length nodes → length (cellsOf (valueOf (nodeAt nodes i) "dependencies")) ≤ mostDependencies
 
 -- all features
-pub record FeaturesAre (nodes : List Node) (r : FeaturesRead) : Type 0 where
+pub record FeaturesAre (nodes : List Node) (phandles : List ℕ) (r : FeaturesRead) : Type 0 where
   pub judged : Judged (inOrder featureChecks [] nodes) (numberOf (r .refusal)) (r .place)
   pub features : numberOf (r .refusal) ≡ 0 → AreFeatures (r .features) nodes
-  pub phandles : numberOf (r .refusal) ≡ 0 → ArePhandles (r .phandles) nodes
+  pub noted : numberOf (r .refusal) ≡ 0 → ArePhandles phandles nodes
   pub few : numberOf (r .refusal) ≡ 0 → FewEach nodes
 
-abbrev pub ReadsFeatures : List ℕ → Blocks → Features → FeaturesRead → Type 0
-ReadsFeatures tree b fs r = (nodes : List Node) → AtPlaces tree b fs nodes → FeaturesAre nodes r
+abbrev pub ReadsFeatures : List ℕ → Blocks → Features → List ℕ → FeaturesRead → Type 0
+ReadsFeatures tree b fs phandles r = (nodes : List Node) → AtPlaces tree b fs nodes → FeaturesAre nodes phandles r
 
 -- where cells lie in a tree
 pub record CellsLie (tree : List ℕ) (ps : List ℕ) (from : ℕ) : Type 0 where
@@ -286,33 +284,48 @@ ResolvesCells tree from n phandles count at old new r =
     (nodes : List Node) (ps : List ℕ) → ArePhandles phandles nodes → count ≡ length nodes → n ≡ length ps → CellsLie tree ps from
     → Resolves nodes ps at old new r
 
+-- the cells of the dependencies of a node whose properties begin at a place
+abbrev pub dependenciesAt : List ℕ → Blocks → ℕ → List ℕ
+dependenciesAt tree b first = cellsOf (valueIn (bytes "dependencies") (treeTokens tree b first))
+
+abbrev pub RoomFor : List ℕ → Blocks → ℕ → ℕ → Type 0
+RoomFor tree b first at = at + length (dependenciesAt tree b first) ≤ slotCount
+
+abbrev pub ResolvesFeature : List ℕ → Blocks → ℕ → List ℕ → ℕ → ℕ → List ℕ → List ℕ → Bool → Type 0
+ResolvesFeature tree b first phandles count at old new r =
+    (nodes : List Node) → ArePhandles phandles nodes → count ≡ length nodes → Resolves nodes (dependenciesAt tree b first) at old new r
+
 -- places of nodes whose features were read
-pub record Known (tree : List ℕ) (b : Blocks) (fs : Features) (read : FeaturesRead) (nodes : List Node) : Type 0 where
+pub record Known (tree : List ℕ) (b : Blocks) (fs : Features) (phandles : List ℕ) (nodes : List Node) : Type 0 where
   pub at : AtPlaces tree b fs nodes
-  pub features : AreFeatures (read .features) nodes
-  pub phandles : ArePhandles (read .phandles) nodes
+  pub noted : ArePhandles phandles nodes
   pub few : FewEach nodes
 
-abbrev pub SomeKnown : List ℕ → Blocks → Features → FeaturesRead → Type 0
-SomeKnown tree b fs read = (nodes : List Node) × Known tree b fs read nodes
+abbrev pub SomeKnown : List ℕ → Blocks → Features → List ℕ → Type 0
+SomeKnown tree b fs phandles = (nodes : List Node) × Known tree b fs phandles nodes
 
 -- all dependencies
-pub record SlotsAre (nodes : List Node) (r : SlotsRead) : Type 0 where
+pub record SlotsAre (nodes : List Node) (slots : List ℕ) (r : Finding) : Type 0 where
   pub judged : Judged (carrierChecks nodes nodes) (numberOf (r .refusal)) (r .place)
-  pub slots : numberOf (r .refusal) ≡ 0 → r .slots ≡ padded slotCount 0 (slotsOf nodes nodes)
+  pub found : numberOf (r .refusal) ≡ 0 → slots ≡ padded slotCount 0 (slotsOf nodes nodes)
 
-abbrev pub ResolvesAll : List ℕ → Blocks → Features → FeaturesRead → SlotsRead → Type 0
-ResolvesAll tree b fs read r = (nodes : List Node) → Known tree b fs read nodes → SlotsAre nodes r
+abbrev pub ResolvesAll : List ℕ → Blocks → Features → List ℕ → List ℕ → Finding → Type 0
+ResolvesAll tree b fs phandles slots r = (nodes : List Node) → Known tree b fs phandles nodes → SlotsAre nodes slots r
 
 -- "each one string with its zero byte"
 abbrev pub holdsText : List ℕ → Value → Bool
 holdsText text missing = false
 holdsText text (value bs) = isString bs text
 
+-- a container's `device_type` and `compatible`
+unfoldable pub isContainer : List Token → Bool
+isContainer ts =
+    pick (holdsText (bytes "cpu-features") (valueIn (bytes "device_type") ts)) (holdsText (bytes "ibm,powerpc-cpu-features") (valueIn (bytes "compatible") ts)) false
+
 -- a container's own properties: what their checks find, and its `isa` where they find nothing
 pub record ContainerIs (c : Node) (r : CellRead) : Type 0 where
   pub judged : Judged (containerProperties c) (numberOf (r .refusal)) (c .at)
-  pub isa : numberOf (r .refusal) ≡ 0 → r .cell ≡ cellOf (valueOf c "isa")
+  pub isa : numberOf (r .refusal) ≡ 0 → r .number ≡ number (valueOf c "isa")
 
 abbrev pub ReadsContainer : List ℕ → Blocks → ℕ → CellRead → Type 0
 ReadsContainer tree b first r = (c : Node) → ((name : List ℕ) → valueIn name (c .behind) ≡ valueIn name (treeTokens tree b first)) → ContainerIs c r
@@ -332,3 +345,22 @@ readFeatures c =
 
 abbrev pub ReadsRecord : List ℕ → Blocks → ℕ → Features → Placed Record → Type 0
 ReadsRecord tree b isa fs r = (c : Node) → Contains tree b isa fs c → r ≡ readFeatures c
+
+-- a container, its `isa` and where its contents begin
+pub record Opens (tree : List ℕ) (b : Blocks) (number-read first : ℕ) (c : Node) : Type 0 where
+  pub like : Alike (c .behind) (treeTokens tree b first)
+  pub isa : number-read ≡ number (valueOf c "isa")
+  pub low : (i : ℕ) → nodeAt (children c) i .at ≤ largestTree
+
+abbrev pub SomeOpen : List ℕ → Blocks → ℕ → ℕ → Type 0
+SomeOpen tree b isa first = (c : Node) × Opens tree b isa first c
+
+-- the reading behind the container's own properties: how many features, their names, and all that they hold
+unfoldable pub readChildren : Node → Placed Record
+readChildren c =
+    firstFault (refuseAt noFeatures)
+    (countChecks (children c) ++ (inOrder nameChecks [] (children c) ++ (inOrder featureChecks [] (children c) ++ carrierChecks (children c) (children c))))
+    (placed (recordOf c))
+
+abbrev pub ReadsChildren : List ℕ → Blocks → ℕ → ℕ → Placed Record → Type 0
+ReadsChildren tree b isa first r = (c : Node) → Opens tree b isa first c → r ≡ readChildren c

@@ -2,7 +2,6 @@
 use crate::nodes::Held;
 use crate::nodes::value_of;
 use header::Blocks;
-use record::Cell;
 use record::HIGHEST_BIT;
 use record::MOST_DEPENDENCIES;
 use refusal::Refusal;
@@ -12,23 +11,26 @@ ghost use lib.ListN.{length as length-of};
 ghost use Rattle.characters.specs.Characters.{bytes};
 ghost use Rattle.refusal.specs.Refusal.{numberOf};
 ghost use Rattle.positions.specs.Below.{oneIf};
-ghost use Rattle.record.specs.Cells.{lowBit, numberIn};
+ghost use Rattle.positions.specs.Bits.{bit as bit-of};
 ghost use Rattle.walk.specs.Walk.{treeTokens};
 ghost use Rattle.reading.specs.Values.{valueIn};
-ghost use Rattle.reader.specs.Parts.{badCell, CellIs, inRange, CountIs, BitIs, firstOf, isGivenCell};
+ghost use Rattle.reader.specs.Parts.{noCell, CellIs, atMost, CountIs, BitIs, firstOf};
 
-// A property of one cell: its refusal, and the cell where there is none.
+// A property of one cell: its refusal; where there is none, whether it is given, and its number, zero where it is not.
 pub(crate) struct CellRead {
     pub(crate) refusal: Refusal,
-    pub(crate) cell: Cell,
+    pub(crate) given: bool,
+    pub(crate) number: u32,
 }
 
-pub(crate) fn bad_cell(refusal: Refusal) -> CellRead
-    ensures { λ r. ⌜ r ≡ badCell refusal ⌝ }
+// No cell: it is refused, or not given.
+pub(crate) fn no_cell(refusal: Refusal) -> CellRead
+    ensures { λ r. ⌜ r ≡ noCell refusal ⌝ }
 {
     CellRead {
         refusal,
-        cell: Cell::Absent,
+        given: false,
+        number: 0,
     }
 }
 
@@ -41,46 +43,35 @@ pub(crate) fn read_cell(tree: &[u8], b: Blocks, first: usize, name: &[u8], neede
     match held {
         Held::At { from, length } => {
             if length != 4 {
-                return bad_cell(Refusal::PropertyForm);
+                return no_cell(Refusal::PropertyForm);
             }
             CellRead {
                 refusal: Refusal::None,
-                cell: Cell::Given(cells::cell_at(tree, from)),
+                given: true,
+                number: cells::cell_at(tree, from),
             }
         }
         Held::Missing => {
             if needed {
-                return bad_cell(Refusal::PropertyForm);
+                return no_cell(Refusal::PropertyForm);
             }
             CellRead {
                 refusal: Refusal::None,
-                cell: Cell::Absent,
+                given: false,
+                number: 0,
             }
         }
     }
 }
 
-// A cell, refused where it is given and not from `low` to `high`.
-pub(crate) fn in_range(c: CellRead, low: u32, high: u32) -> CellRead
-    ensures { λ r. ⌜ r ≡ inRange low high c ⌝ }
+// A cell, refused where its number is above `high`.
+pub(crate) fn at_most(c: CellRead, high: u32) -> CellRead
+    ensures { λ r. ⌜ r ≡ atMost high c ⌝ }
 {
-    let refusal = c.refusal;
-    if refusal::number(refusal) != 0 {
+    if c.number <= high {
         return c;
     }
-    let cell = c.cell;
-    match cell {
-        Cell::Given(n) => {
-            if n < low {
-                return bad_cell(Refusal::OutOfRange);
-            }
-            if high < n {
-                return bad_cell(Refusal::OutOfRange);
-            }
-            c
-        }
-        Cell::Absent => c,
-    }
+    no_cell(Refusal::OutOfRange)
 }
 
 // A bit number, needed where bit 0 of a support cell is set.
@@ -93,10 +84,13 @@ pub(crate) fn read_bit(
 ) -> CellRead
     requires { ⌜ b .end ≤ length-of (now tree) ⌝ }
     ensures { λ r.
-        ⌜ BitIs (lowBit (support .cell)) (valueIn (now (name .entry)) (treeTokens (now (tree .entry)) b first)) r ⌝ }
+        ⌜ BitIs
+        (bit-of (support .number) 0)
+        (valueIn (now (name .entry)) (treeTokens (now (tree .entry)) b first))
+        r ⌝ }
 {
-    let needed = low_bit(support);
-    in_range(read_cell(tree, b, first, name, needed), 0, HIGHEST_BIT)
+    let needed = positions::bit_set(support.number as u64, 0);
+    at_most(read_cell(tree, b, first, name, needed), HIGHEST_BIT)
 }
 
 // The number of a node's dependencies: whole cells, at most sixteen.
@@ -104,60 +98,28 @@ pub(crate) fn read_count(tree: &[u8], b: Blocks, first: usize) -> CellRead
     requires { ⌜ b .end ≤ length-of (now tree) ⌝ }
     ensures { λ r. ⌜ CountIs (valueIn (bytes "dependencies") (treeTokens (now (tree .entry)) b first)) r ⌝ }
 {
-    let held = value_of(tree, b, first, b"dependencies");
-    match held {
-        Held::Missing => CellRead {
-            refusal: Refusal::None,
-            cell: Cell::Absent,
-        },
-        Held::At { from: _, length } => {
-            if length % 4 != 0 {
-                return bad_cell(Refusal::PropertyForm);
-            }
-            if MOST_DEPENDENCIES < length / 4 {
-                return bad_cell(Refusal::TooMany);
-            }
-            CellRead {
-                refusal: Refusal::None,
-                cell: Cell::Given((length / 4) as u32),
-            }
-        }
+    let Held::At { from: _, length } = value_of(tree, b, first, b"dependencies") else {
+        return no_cell(Refusal::None);
+    };
+    if length % 4 != 0 {
+        return no_cell(Refusal::PropertyForm);
     }
-}
-
-fn low_bit(c: CellRead) -> bool
-    ensures { λ r. ⌜ r ≡ lowBit (c .cell) ⌝ }
-{
-    let cell = c.cell;
-    record::low_bit(cell)
-}
-
-// The number of a cell; zero where it is absent.
-pub(crate) fn number_of(c: Cell) -> u32
-    ensures { λ r. ⌜ r ≡ numberIn c ⌝ }
-{
-    match c {
-        Cell::Absent => 0,
-        Cell::Given(n) => n,
+    let n = length / 4;
+    if MOST_DEPENDENCIES < n {
+        return no_cell(Refusal::TooMany);
     }
-}
-
-pub(crate) fn cell_number(c: CellRead) -> u32
-    ensures { λ r. ⌜ r ≡ numberIn (c .cell) ⌝ }
-{
-    let cell = c.cell;
-    number_of(cell)
+    CellRead {
+        refusal: Refusal::None,
+        given: true,
+        number: n as u32,
+    }
 }
 
 // A bit of the word `given`: set where the cell is given.
 pub(crate) fn given_bit(c: CellRead, bit: u32) -> u32
-    ensures { λ r. ⌜ (r ≡ oneIf (isGivenCell (c .cell)) * bit) × (r ≤ bit) ⌝ }
+    ensures { λ r. ⌜ (r ≡ oneIf (c .given) * bit) × (r ≤ bit) ⌝ }
 {
-    let cell = c.cell;
-    match cell {
-        Cell::Absent => 0,
-        Cell::Given(_) => bit,
-    }
+    if c.given { bit } else { 0 }
 }
 
 // The refusal of a property, or that of those behind it.

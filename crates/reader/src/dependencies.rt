@@ -1,5 +1,4 @@
 // Dependencies: each phandle becomes the position of the feature that carries it.
-use crate::feature::FeaturesRead;
 use crate::feature::carrier_below;
 use crate::nodes::Features;
 use crate::nodes::Held;
@@ -9,35 +8,16 @@ use record::MOST_DEPENDENCIES;
 use record::MOST_FEATURES;
 use record::SLOTS;
 use refusal::Refusal;
+ghost use mathlib.Core.Path.{_≡_};
 ghost use Prim.Native.Nat.{_+_, _*_, _≤_};
-ghost use lib.ListN.{length as length-of};
-ghost use Rattle.characters.specs.Characters.{bytes};
-ghost use Rattle.record.specs.Record.{mostFeatures};
-ghost use Rattle.walk.specs.Walk.{treeTokens};
-ghost use Rattle.reading.specs.Values.{valueIn, cellsOf};
-ghost use Rattle.reader.specs.Parts.{CellsLie, ResolvesCells, SomeKnown, ResolvesAll};
+ghost use lib.ListN.{length as length-of, replicate};
+ghost use Rattle.record.specs.Record.{mostFeatures, slotCount};
+ghost use Rattle.reader.specs.Parts.{RoomFor, ResolvesCells, ResolvesFeature, SomeKnown, ResolvesAll};
 
-// The dependencies of all features: the refusal of the first that is refused and its place, and the slots where there is none.
-pub(crate) struct SlotsRead {
+// What the dependencies of all features find: the refusal of the first that is refused and its place.
+pub(crate) struct Finding {
     pub(crate) refusal: Refusal,
     pub(crate) place: usize,
-    pub(crate) slots: [u16; SLOTS],
-}
-
-// Where the cells of a node's dependencies begin.
-fn cells_from(tree: &[u8], b: Blocks, first: usize) -> usize
-    requires { ⌜ b .end ≤ length-of (now tree) ⌝ }
-    ensures { λ r.
-        ⌜ CellsLie
-        (now (tree .entry))
-        (cellsOf (valueIn (bytes "dependencies") (treeTokens (now (tree .entry)) b first)))
-        r ⌝ }
-{
-    let held = value_of(tree, b, first, b"dependencies");
-    match held {
-        Held::Missing => 0,
-        Held::At { from, length: _ } => from,
-    }
 }
 
 // The `n` phandles that begin at `from`, each as the position of the feature that carries it, into the slots from `at` on. False where
@@ -48,10 +28,10 @@ fn resolve_cells(
     n: usize,
     phandles: &[u64; MOST_FEATURES],
     count: usize,
-    slots: &mut [u16],
+    slots: &mut [u16; SLOTS],
     at: usize,
 ) -> bool
-    requires { ⌜ (from + 4 * n ≤ length-of (now tree)) × (count ≤ mostFeatures) × (at + n ≤ length-of (now slots)) ⌝ }
+    requires { ⌜ (from + 4 * n ≤ length-of (now tree)) × (count ≤ mostFeatures) × (at + n ≤ slotCount) ⌝ }
     ensures { λ r.
         ⌜ ResolvesCells
         (now (tree .entry))
@@ -77,37 +57,76 @@ fn resolve_cells(
     true
 }
 
-// Document 01: "one flat run of 1,024 dependency slots", filled sixteen to a feature.
-pub(crate) fn resolve(tree: &[u8], b: Blocks, fs: Features, read: FeaturesRead) -> SlotsRead
-    requires { ⌜ (b .end ≤ length-of (now tree)) × SomeKnown (now tree) b fs read ⌝ }
-    ensures { λ r. ⌜ ResolvesAll (now (tree .entry)) b fs read r ⌝ }
+// The dependencies of a feature whose properties begin at `first`, into the slots from `at` on.
+fn resolve_feature(
+    tree: &[u8],
+    b: Blocks,
+    first: usize,
+    phandles: &[u64; MOST_FEATURES],
+    count: usize,
+    slots: &mut [u16; SLOTS],
+    at: usize,
+) -> bool
+    requires { ⌜ (b .end ≤ length-of (now tree)) × (count ≤ mostFeatures) × RoomFor (now tree) b first at ⌝ }
+    ensures { λ r.
+        ⌜ ResolvesFeature
+        (now (tree .entry))
+        b
+        first
+        (now (phandles .entry))
+        count
+        at
+        (now (slots .entry))
+        (now (slots .exit))
+        r ⌝ }
 {
-    let mut slots: [u16; SLOTS] = [0; SLOTS];
+    let held = value_of(tree, b, first, b"dependencies");
+    match held {
+        Held::Missing => true,
+        Held::At { from, length } => resolve_cells(
+            tree,
+            from,
+            length / 4,
+            phandles,
+            count,
+            slots,
+            at,
+        ),
+    }
+}
+
+// Document 01: "one flat run of 1,024 dependency slots", filled sixteen to a feature.
+pub(crate) fn resolve(
+    tree: &[u8],
+    b: Blocks,
+    fs: Features,
+    phandles: &[u64; MOST_FEATURES],
+    slots: &mut [u16; SLOTS],
+) -> Finding
+    requires { ⌜ (b .end ≤ length-of (now tree)) × SomeKnown (now tree) b fs (now phandles) × (now slots ≡ replicate slotCount 0) ⌝ }
+    ensures { λ r. ⌜ ResolvesAll (now (tree .entry)) b fs (now (phandles .entry)) (now (slots .exit)) r ⌝ }
+{
     let mut i: usize = 0;
     while i < fs.count {
         let p = fs.nodes[i];
-        let f = read.features[i];
-        let from = cells_from(tree, b, p.behind);
-        if !resolve_cells(
+        if !resolve_feature(
             tree,
-            from,
-            f.dependencies as usize,
-            &read.phandles,
+            b,
+            p.behind,
+            phandles,
             fs.count,
-            &mut slots,
+            &mut *slots,
             MOST_DEPENDENCIES * i,
         ) {
-            return SlotsRead {
+            return Finding {
                 refusal: Refusal::UnknownPhandle,
                 place: p.at,
-                slots,
             };
         }
         i += 1;
     }
-    SlotsRead {
+    Finding {
         refusal: Refusal::None,
         place: 0,
-        slots,
     }
 }

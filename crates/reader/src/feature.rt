@@ -1,43 +1,42 @@
 // The properties of a feature, and all features in order.
 use crate::cell::CellRead;
-use crate::cell::bad_cell;
-use crate::cell::cell_number;
+use crate::cell::at_most;
 use crate::cell::first_of;
 use crate::cell::given_bit;
-use crate::cell::in_range;
+use crate::cell::no_cell;
 use crate::cell::read_bit;
 use crate::cell::read_cell;
 use crate::cell::read_count;
 use crate::nodes::Features;
 use crate::nodes::NodePlace;
 use header::Blocks;
-use record::Cell;
 use record::Feature;
 use record::MOST_FEATURES;
-use record::Property;
 use refusal::Refusal;
 ghost use mathlib.Core.Path.{_≡_};
-ghost use Prim.Native.Nat.{_≤_};
+ghost use mathlib.Core.List.{[]};
+ghost use Prim.Native.Nat.{_≤_, _<_};
 ghost use lib.ListN.{length as length-of};
 ghost use Rattle.characters.specs.Characters.{bytes};
 ghost use Rattle.refusal.specs.Refusal.{numberOf};
 ghost use Rattle.header.specs.Header.{largestTree};
 ghost use Rattle.record.specs.Record.{mostFeatures, noFeature};
-ghost use Rattle.record.specs.Cells.{cell};
-ghost use Rattle.record.specs.declared.Property.the-variants.{Phandle};
 ghost use Rattle.walk.specs.Walk.{treeTokens};
 ghost use Rattle.reading.specs.Values.{valueIn};
 ghost use Rattle.reader.specs.Parts.{
   FirstThat,
-  notedCell,
+  noted,
   notedAt,
   PhandleIs,
+  SupportIs,
+  BitsAre,
   CellsAre,
   refusalOf,
   givenBits,
   featureFrom,
   ReadsFeature,
   SomeNodes,
+  ArePhandles,
   ReadsFeatures,
 };
 
@@ -47,15 +46,25 @@ const HIGHEST_PHANDLE: u32 = 0xfffffffe;
 // Above every cell.
 const NO_PHANDLE: u64 = 0x100000000;
 
-// The cells of a feature's properties; of its dependencies, how many.
-pub(crate) struct FeatureCells {
-    pub(crate) isa: CellRead,
+// The cells of who may use a feature, and of its supports.
+pub(crate) struct SupportCells {
     pub(crate) usable_privilege: CellRead,
     pub(crate) hv_support: CellRead,
     pub(crate) os_support: CellRead,
+}
+
+// The cells of a feature's bit numbers.
+pub(crate) struct BitCells {
     pub(crate) hfscr_bit_nr: CellRead,
     pub(crate) fscr_bit_nr: CellRead,
     pub(crate) hwcap_bit_nr: CellRead,
+}
+
+// The cells of a feature's properties; of its dependencies, how many.
+pub(crate) struct FeatureCells {
+    pub(crate) isa: CellRead,
+    pub(crate) support: SupportCells,
+    pub(crate) bits: BitCells,
     pub(crate) phandle: CellRead,
     pub(crate) dependencies: CellRead,
 }
@@ -71,7 +80,6 @@ pub(crate) struct FeaturesRead {
     pub(crate) refusal: Refusal,
     pub(crate) place: usize,
     pub(crate) features: [Feature; MOST_FEATURES],
-    pub(crate) phandles: [u64; MOST_FEATURES],
 }
 
 pub(crate) fn no_feature() -> Feature
@@ -93,13 +101,13 @@ pub(crate) fn no_feature() -> Feature
 }
 
 // What is noted of a feature's phandle: the phandle, or a number that no cell holds where there is none.
-fn phandle_noted(f: Feature) -> u64
-    ensures { λ r. ⌜ r ≡ notedCell (cell f Phandle) ⌝ }
+fn phandle_noted(c: CellRead) -> u64
+    ensures { λ r. ⌜ r ≡ noted (c .given) (c .number) ⌝ }
 {
-    match record::cell_of(f, Property::Phandle) {
-        Cell::Absent => NO_PHANDLE,
-        Cell::Given(n) => n as u64,
+    if c.given {
+        return c.number as u64;
     }
+    NO_PHANDLE
 }
 
 // The first of the features below `n` that carries a phandle; `n` where none does.
@@ -130,20 +138,43 @@ fn read_phandle(
     ensures { λ r.
         ⌜ PhandleIs (now (phandles .entry)) n (valueIn (bytes "phandle") (treeTokens (now (tree .entry)) b first)) r ⌝ }
 {
-    let read = in_range(
+    let read = at_most(
         read_cell(tree, b, first, b"phandle", false),
-        1,
         HIGHEST_PHANDLE,
     );
-    let cell = read.cell;
-    match cell {
-        Cell::Absent => read,
-        Cell::Given(phandle) => {
-            if carrier_below(phandles, n, phandle) < n {
-                return bad_cell(Refusal::Repeated);
-            }
-            read
-        }
+    if !read.given {
+        return read;
+    }
+    if read.number == 0 {
+        return no_cell(Refusal::OutOfRange);
+    }
+    if carrier_below(phandles, n, read.number) < n {
+        return no_cell(Refusal::Repeated);
+    }
+    read
+}
+
+// Who may use a feature, and its supports.
+fn read_support(tree: &[u8], b: Blocks, first: usize) -> SupportCells
+    requires { ⌜ b .end ≤ length-of (now tree) ⌝ }
+    ensures { λ r. ⌜ SupportIs (treeTokens (now (tree .entry)) b first) r ⌝ }
+{
+    SupportCells {
+        usable_privilege: read_cell(tree, b, first, b"usable-privilege", true),
+        hv_support: read_cell(tree, b, first, b"hv-support", false),
+        os_support: read_cell(tree, b, first, b"os-support", false),
+    }
+}
+
+// A feature's bit numbers, by its supports.
+fn read_bits(tree: &[u8], b: Blocks, first: usize, s: SupportCells) -> BitCells
+    requires { ⌜ b .end ≤ length-of (now tree) ⌝ }
+    ensures { λ r. ⌜ BitsAre (treeTokens (now (tree .entry)) b first) s r ⌝ }
+{
+    BitCells {
+        hfscr_bit_nr: read_bit(tree, b, first, b"hfscr-bit-nr", s.hv_support),
+        fscr_bit_nr: read_bit(tree, b, first, b"fscr-bit-nr", s.os_support),
+        hwcap_bit_nr: read_bit(tree, b, first, b"hwcap-bit-nr", s.usable_privilege),
     }
 }
 
@@ -156,19 +187,13 @@ fn read_cells(
     n: usize,
 ) -> FeatureCells
     requires { ⌜ (b .end ≤ length-of (now tree)) × (n ≤ mostFeatures) ⌝ }
-    ensures { λ r. ⌜ CellsAre (now (tree .entry)) b first (now (phandles .entry)) n r ⌝ }
+    ensures { λ r. ⌜ CellsAre (treeTokens (now (tree .entry)) b first) (now (phandles .entry)) n r ⌝ }
 {
-    let usable_privilege = read_cell(tree, b, first, b"usable-privilege", true);
-    let hv_support = read_cell(tree, b, first, b"hv-support", false);
-    let os_support = read_cell(tree, b, first, b"os-support", false);
+    let support = read_support(tree, b, first);
     FeatureCells {
         isa: read_cell(tree, b, first, b"isa", true),
-        usable_privilege,
-        hv_support,
-        os_support,
-        hfscr_bit_nr: read_bit(tree, b, first, b"hfscr-bit-nr", hv_support),
-        fscr_bit_nr: read_bit(tree, b, first, b"fscr-bit-nr", os_support),
-        hwcap_bit_nr: read_bit(tree, b, first, b"hwcap-bit-nr", usable_privilege),
+        support,
+        bits: read_bits(tree, b, first, support),
         phandle: read_phandle(tree, b, first, phandles, n),
         dependencies: read_count(tree, b, first),
     }
@@ -180,12 +205,12 @@ fn refusal_of(c: FeatureCells) -> Refusal
 {
     let dependencies = first_of(c.dependencies, Refusal::None);
     let phandle = first_of(c.phandle, dependencies);
-    let hwcap = first_of(c.hwcap_bit_nr, phandle);
-    let fscr = first_of(c.fscr_bit_nr, hwcap);
-    let hfscr = first_of(c.hfscr_bit_nr, fscr);
-    let os = first_of(c.os_support, hfscr);
-    let hv = first_of(c.hv_support, os);
-    let usable = first_of(c.usable_privilege, hv);
+    let hwcap = first_of(c.bits.hwcap_bit_nr, phandle);
+    let fscr = first_of(c.bits.fscr_bit_nr, hwcap);
+    let hfscr = first_of(c.bits.hfscr_bit_nr, fscr);
+    let os = first_of(c.support.os_support, hfscr);
+    let hv = first_of(c.support.hv_support, os);
+    let usable = first_of(c.support.usable_privilege, hv);
     first_of(c.isa, usable)
 }
 
@@ -194,12 +219,12 @@ fn given_word(c: FeatureCells) -> u32
     ensures { λ r. ⌜ r ≡ givenBits c ⌝ }
 {
     given_bit(c.isa, 1)
-        + given_bit(c.usable_privilege, 2)
-        + given_bit(c.hv_support, 4)
-        + given_bit(c.os_support, 8)
-        + given_bit(c.hfscr_bit_nr, 16)
-        + given_bit(c.fscr_bit_nr, 32)
-        + given_bit(c.hwcap_bit_nr, 64)
+        + given_bit(c.support.usable_privilege, 2)
+        + given_bit(c.support.hv_support, 4)
+        + given_bit(c.support.os_support, 8)
+        + given_bit(c.bits.hfscr_bit_nr, 16)
+        + given_bit(c.bits.fscr_bit_nr, 32)
+        + given_bit(c.bits.hwcap_bit_nr, 64)
         + given_bit(c.phandle, 128)
         + given_bit(c.dependencies, 256)
 }
@@ -212,65 +237,67 @@ fn feature_of(at: usize, c: FeatureCells) -> Feature
     Feature {
         offset: at as u32,
         given: given_word(c),
-        isa: cell_number(c.isa),
-        usable_privilege: cell_number(c.usable_privilege),
-        hv_support: cell_number(c.hv_support),
-        os_support: cell_number(c.os_support),
-        hfscr_bit_nr: cell_number(c.hfscr_bit_nr),
-        fscr_bit_nr: cell_number(c.fscr_bit_nr),
-        hwcap_bit_nr: cell_number(c.hwcap_bit_nr),
-        phandle: cell_number(c.phandle),
-        dependencies: cell_number(c.dependencies),
+        isa: c.isa.number,
+        usable_privilege: c.support.usable_privilege.number,
+        hv_support: c.support.hv_support.number,
+        os_support: c.support.os_support.number,
+        hfscr_bit_nr: c.bits.hfscr_bit_nr.number,
+        fscr_bit_nr: c.bits.fscr_bit_nr.number,
+        hwcap_bit_nr: c.bits.hwcap_bit_nr.number,
+        phandle: c.phandle.number,
+        dependencies: c.dependencies.number,
     }
 }
 
-// The feature at a place, the one at position `i`, by the phandles of those before it.
+// The feature at a place, the one at position `i`, by the phandles of those before it; its own is noted.
 fn read_feature(
     tree: &[u8],
     b: Blocks,
     p: NodePlace,
-    phandles: &[u64; MOST_FEATURES],
+    phandles: &mut [u64; MOST_FEATURES],
     i: usize,
 ) -> FeatureRead
-    requires { ⌜ (b .end ≤ length-of (now tree)) × (i ≤ mostFeatures) × (p .at ≤ largestTree) ⌝ }
-    ensures { λ r. ⌜ ReadsFeature (now (tree .entry)) b p (now (phandles .entry)) i r ⌝ }
+    requires { ⌜ (b .end ≤ length-of (now tree)) × (i < mostFeatures) × (p .at ≤ largestTree) ⌝ }
+    ensures { λ r. ⌜ ReadsFeature (now (tree .entry)) b p (now (phandles .entry)) (now (phandles .exit)) i r ⌝ }
 {
-    let cells = read_cells(tree, b, p.behind, phandles, i);
+    let cells = read_cells(tree, b, p.behind, &*phandles, i);
+    phandles[i] = phandle_noted(cells.phandle);
     FeatureRead {
         refusal: refusal_of(cells),
         feature: feature_of(p.at, cells),
     }
 }
 
-// The features at some places, in order.
-pub(crate) fn read_features(tree: &[u8], b: Blocks, fs: Features) -> FeaturesRead
-    requires { ⌜ (b .end ≤ length-of (now tree)) × SomeNodes (now tree) b fs ⌝ }
-    ensures { λ r. ⌜ ReadsFeatures (now (tree .entry)) b fs r ⌝ }
+// The features at some places, in order, and what is noted of their phandles.
+pub(crate) fn read_features(
+    tree: &[u8],
+    b: Blocks,
+    fs: Features,
+    phandles: &mut [u64; MOST_FEATURES],
+) -> FeaturesRead
+    requires { ⌜ (b .end ≤ length-of (now tree)) × SomeNodes (now tree) b fs × ArePhandles (now phandles) [] ⌝ }
+    ensures { λ r. ⌜ ReadsFeatures (now (tree .entry)) b fs (now (phandles .exit)) r ⌝ }
 {
     let mut features = [no_feature(); MOST_FEATURES];
-    let mut phandles: [u64; MOST_FEATURES] = [0; MOST_FEATURES];
     let mut i: usize = 0;
     while i < fs.count {
         let p = fs.nodes[i];
-        let read = read_feature(tree, b, p, &phandles, i);
+        let read = read_feature(tree, b, p, &mut *phandles, i);
         let refusal = read.refusal;
         if refusal::number(refusal) != 0 {
             return FeaturesRead {
                 refusal,
                 place: p.at,
                 features,
-                phandles,
             };
         }
         let feature = read.feature;
         features[i] = feature;
-        phandles[i] = phandle_noted(feature);
         i += 1;
     }
     FeaturesRead {
         refusal: Refusal::None,
         place: 0,
         features,
-        phandles,
     }
 }

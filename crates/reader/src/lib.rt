@@ -5,8 +5,7 @@ mod feature;
 mod nodes;
 
 use cell::CellRead;
-use cell::bad_cell;
-use cell::number_of;
+use cell::no_cell;
 use cell::read_cell;
 use dependencies::resolve;
 use feature::no_feature;
@@ -14,7 +13,7 @@ use feature::read_features;
 use header::Blocks;
 use nodes::Features;
 use nodes::Held;
-use nodes::contents;
+use nodes::behind;
 use nodes::features_of;
 use nodes::repeated_name;
 use nodes::value_of;
@@ -33,7 +32,15 @@ ghost use Rattle.walk.specs.Walk.{treeTokens};
 ghost use Rattle.reading.specs.Values.{valueIn};
 ghost use Rattle.reading.specs.Reading.{readAccepted, readRecord};
 ghost use Rattle.reader.specs.Outcome.{readOutcome};
-ghost use Rattle.reader.specs.Parts.{holdsText, ReadsContainer, SomeContainer, ReadsRecord};
+ghost use Rattle.reader.specs.Parts.{
+  holdsText,
+  isContainer,
+  ReadsContainer,
+  SomeContainer,
+  ReadsRecord,
+  SomeOpen,
+  ReadsChildren,
+};
 
 // What a reading answers: a refusal with its place, or the feature record; a refused one has a record of no features.
 pub struct Read {
@@ -58,16 +65,24 @@ fn has_text(tree: &[u8], b: Blocks, first: usize, name: &[u8], text: &[u8]) -> b
     }
 }
 
+// Whether the `device_type` and `compatible` of a node whose contents begin at `first` are a container's.
+fn is_container(tree: &[u8], b: Blocks, first: usize) -> bool
+    requires { ⌜ b .end ≤ length-of (now tree) ⌝ }
+    ensures { λ r. ⌜ r ≡ isContainer (treeTokens (now (tree .entry)) b first) ⌝ }
+{
+    if !has_text(tree, b, first, b"device_type", b"cpu-features") {
+        return false;
+    }
+    has_text(tree, b, first, b"compatible", b"ibm,powerpc-cpu-features")
+}
+
 // The `isa` of a container whose contents begin at `first`, after its `device_type` and `compatible`.
 fn container_isa(tree: &[u8], b: Blocks, first: usize) -> CellRead
     requires { ⌜ b .end ≤ length-of (now tree) ⌝ }
     ensures { λ r. ⌜ ReadsContainer (now (tree .entry)) b first r ⌝ }
 {
-    if !has_text(tree, b, first, b"device_type", b"cpu-features") {
-        return bad_cell(Refusal::PropertyForm);
-    }
-    if !has_text(tree, b, first, b"compatible", b"ibm,powerpc-cpu-features") {
-        return bad_cell(Refusal::PropertyForm);
+    if !is_container(tree, b, first) {
+        return no_cell(Refusal::PropertyForm);
     }
     read_cell(tree, b, first, b"isa", true)
 }
@@ -84,22 +99,15 @@ fn no_features() -> Record
     }
 }
 
-// A number and a place, and a record beside them.
-fn answered(refusal: Refusal, place: usize, value: Record) -> Read
-    ensures { λ r. ⌜ readOutcome r ≡ record { number = numberOf refusal; place = place; value = value } ⌝ }
-{
-    Read {
-        refusal,
-        place,
-        record: value,
-    }
-}
-
 // A refusal: its number and place, and a record of no features.
 fn refused(refusal: Refusal, place: usize) -> Read
     ensures { λ r. ⌜ readOutcome r ≡ refuseAt noFeatures (fault (numberOf refusal) place) ⌝ }
 {
-    answered(refusal, place, no_features())
+    Read {
+        refusal,
+        place,
+        record: no_features(),
+    }
 }
 
 // The features at some places with all that they hold.
@@ -107,26 +115,52 @@ fn read_places(tree: &[u8], b: Blocks, isa: u32, fs: Features) -> Read
     requires { ⌜ (b .end ≤ length-of (now tree)) × (SomeContainer (now tree) b isa fs) ⌝ }
     ensures { λ r. ⌜ ReadsRecord (now (tree .entry)) b isa fs (readOutcome r) ⌝ }
 {
-    let read = read_features(tree, b, fs);
+    let mut phandles: [u64; MOST_FEATURES] = [0; MOST_FEATURES];
+    let read = read_features(tree, b, fs, &mut phandles);
     let refusal = read.refusal;
     if refusal::number(refusal) != 0 {
         return refused(refusal, read.place);
     }
-    let resolved = resolve(tree, b, fs, read);
+    let mut slots: [u16; SLOTS] = [0; SLOTS];
+    let found = resolve(tree, b, fs, &phandles, &mut slots);
     let features = read.features;
-    let slots = resolved.slots;
     let so_far = Record {
         isa,
         count: fs.count as u32,
         features,
         slots,
     };
-    let refusal = resolved.refusal;
+    let refusal = found.refusal;
     if refusal::number(refusal) != 0 {
         let none = no_features();
-        return answered(refusal, resolved.place, none);
+        return Read {
+            refusal,
+            place: found.place,
+            record: none,
+        };
     }
-    answered(Refusal::None, 0, so_far)
+    Read {
+        refusal: Refusal::None,
+        place: 0,
+        record: so_far,
+    }
+}
+
+// The features of a container whose contents begin at `first`.
+fn read_children(tree: &[u8], b: Blocks, isa: u32, first: usize) -> Read
+    requires { ⌜ (b .end ≤ length-of (now tree)) × (SomeOpen (now tree) b isa first) ⌝ }
+    ensures { λ r. ⌜ ReadsChildren (now (tree .entry)) b isa first (readOutcome r) ⌝ }
+{
+    let fs = features_of(tree, b, first);
+    if fs.more {
+        return refused(Refusal::TooMany, fs.over);
+    }
+    let later = repeated_name(tree, b, fs);
+    if later < fs.count {
+        let p = fs.nodes[later];
+        return refused(Refusal::Repeated, p.at);
+    }
+    read_places(tree, b, isa, fs)
 }
 
 // The record of an accepted tree, with the containers that the walk noted.
@@ -140,23 +174,13 @@ fn read_container(tree: &[u8], b: Blocks, found: Containers) -> Read
     if found.count != 1 {
         return refused(Refusal::Repeated, found.second);
     }
-    let first = contents(tree, b, found.first);
+    let first = behind(tree, b.end, found.first + 4);
     let isa = container_isa(tree, b, first);
     let refusal = isa.refusal;
     if refusal::number(refusal) != 0 {
         return refused(refusal, found.first);
     }
-    let fs = features_of(tree, b, first);
-    if fs.more {
-        return refused(Refusal::TooMany, fs.over);
-    }
-    let later = repeated_name(tree, b, fs);
-    if later < fs.count {
-        let p = fs.nodes[later];
-        return refused(Refusal::Repeated, p.at);
-    }
-    let cell = isa.cell;
-    read_places(tree, b, number_of(cell), fs)
+    read_children(tree, b, isa.number, first)
 }
 
 // The feature record of a tree.

@@ -6,10 +6,9 @@ use record::MOST_FEATURES;
 use tokens::Cursor;
 use tokens::Step;
 ghost use mathlib.Core.Path.{_≡_};
-ghost use Prim.Native.Nat.{_+_, _≤_, _<_};
+ghost use Prim.Native.Nat.{_≤_, _<_};
 ghost use lib.ListN.{length as length-of};
 ghost use Rattle.cells.specs.Strings.{textAt};
-ghost use Rattle.header.specs.Header.{largestTree};
 ghost use Rattle.record.specs.Record.{mostFeatures};
 ghost use Rattle.walk.specs.Walk.{treeTokens};
 ghost use Rattle.reading.specs.Nodes.{childrenAt};
@@ -22,13 +21,11 @@ pub(crate) enum Held {
     At { from: usize, length: usize },
 }
 
-// A token of a node's contents: a child begins, with where its name begins and what is behind its begin token; a node ends; something
-// else, passed; or there is no more.
+// The token at a place of a node's contents: a child begins, with where its name begins and what is behind its begin token; or it is
+// passed, with how deep the tokens behind it are inside the node's own nodes.
 pub(crate) enum Move {
-    Begin { at: usize, name: usize, next: usize },
-    End(usize),
-    Pass(usize),
-    Stop,
+    Child { at: usize, name: usize, next: usize },
+    Past { depth: usize, next: usize },
 }
 
 // A node: its begin token's offset, and where its name and the tokens behind it begin.
@@ -80,16 +77,10 @@ pub(crate) fn value_of(tree: &[u8], b: Blocks, first: usize, name: &[u8]) -> Hel
             Step::Nop { at: _, next } => {
                 at = next.at;
             }
-            Step::BeginNode { at: _, name: _ } => {
-                return Held::Missing;
-            }
-            Step::EndNode { at: _, next: _ } => {
-                return Held::Missing;
-            }
-            Step::End { at: _ } => {
-                return Held::Missing;
-            }
-            Step::Fault { at: _ } => {
+            Step::BeginNode { at: _, name: _ }
+            | Step::EndNode { at: _, next: _ }
+            | Step::End { at: _ }
+            | Step::Fault { at: _ } => {
                 return Held::Missing;
             }
         }
@@ -98,7 +89,7 @@ pub(crate) fn value_of(tree: &[u8], b: Blocks, first: usize, name: &[u8]) -> Hel
 }
 
 // Where the tokens behind a begin token begin, if its name begins at `from`; the block's end, if the name does not end.
-fn behind(tree: &[u8], end: usize, from: usize) -> usize
+pub(crate) fn behind(tree: &[u8], end: usize, from: usize) -> usize
     ensures { λ r. ⌜ r ≡ behindOf from end (textAt (now (tree .entry)) from end) ⌝ }
 {
     let ending = cells::text_end(tree, from, end);
@@ -108,38 +99,47 @@ fn behind(tree: &[u8], end: usize, from: usize) -> usize
     }
 }
 
-// What is behind the begin token at a place of the structure block.
-pub(crate) fn contents(tree: &[u8], b: Blocks, at: usize) -> usize
-    requires { ⌜ (at < b .end) × (b .end ≤ largestTree) ⌝ }
-    ensures { λ r. ⌜ r ≡ behindOf (at + 4) (b .end) (textAt (now (tree .entry)) (at + 4) (b .end)) ⌝ }
-{
-    behind(tree, b.end, at + 4)
-}
-
-fn move_at(tree: &[u8], b: Blocks, at: usize) -> Move
-    requires { ⌜ at < b .end ⌝ }
-    ensures { λ r. ⌜ Moved (now (tree .entry)) b at r ⌝ }
+fn move_at(tree: &[u8], b: Blocks, depth: usize, at: usize) -> Move
+    requires { ⌜ (at < b .end) × (depth ≤ at) ⌝ }
+    ensures { λ r. ⌜ Moved (now (tree .entry)) b depth at r ⌝ }
 {
     let end = b.end;
-    let c = Cursor { at };
-    let step = c.step(tree, end);
+    let here = Cursor { at };
+    let step = here.step(tree, end);
     match step {
-        Step::BeginNode { at: t, name } => Move::Begin {
-            at: t,
-            name: name.at,
-            next: behind(tree, end, name.at),
-        },
-        Step::EndNode { at: _, next } => Move::End(next.at),
+        Step::BeginNode { at: t, name } => {
+            let next = behind(tree, end, name.at);
+            if depth == 0 {
+                return Move::Child {
+                    at: t,
+                    name: name.at,
+                    next,
+                };
+            }
+            Move::Past {
+                depth: depth + 1,
+                next,
+            }
+        }
+        Step::EndNode { at: _, next: c } => {
+            if depth == 0 {
+                return Move::Past { depth, next: end };
+            }
+            Move::Past {
+                depth: depth - 1,
+                next: c.at,
+            }
+        }
         Step::Property {
             at: _,
             value: _,
             length: _,
             name: _,
-            next,
-        } => Move::Pass(next.at),
-        Step::Nop { at: _, next } => Move::Pass(next.at),
-        Step::End { at: _ } => Move::Stop,
-        Step::Fault { at: _ } => Move::Stop,
+            next: c,
+        } => Move::Past { depth, next: c.at },
+        Step::Nop { at: _, next: c } => Move::Past { depth, next: c.at },
+        Step::End { at: _ } => Move::Past { depth, next: end },
+        Step::Fault { at: _ } => Move::Past { depth, next: end },
     }
 }
 
@@ -162,40 +162,27 @@ pub(crate) fn features_of(tree: &[u8], b: Blocks, first: usize) -> Features
     let mut depth: usize = 0;
     let mut at = first;
     while at < b.end {
-        let moved = move_at(tree, b, at);
+        let moved = move_at(tree, b, depth, at);
         match moved {
-            Move::Begin { at: t, name, next } => {
-                if depth != 0 {
-                    depth += 1;
-                    at = next;
-                } else if MOST_FEATURES <= fs.count {
+            Move::Child { at: t, name, next } => {
+                let n = fs.count;
+                if MOST_FEATURES <= n {
                     fs.more = true;
                     fs.over = t;
                     return fs;
-                } else {
-                    let n = fs.count;
-                    fs.nodes[n] = NodePlace {
-                        at: t,
-                        name,
-                        behind: next,
-                    };
-                    fs.count = n + 1;
-                    depth = 1;
-                    at = next;
                 }
-            }
-            Move::End(next) => {
-                if depth == 0 {
-                    return fs;
-                }
-                depth -= 1;
+                fs.nodes[n] = NodePlace {
+                    at: t,
+                    name,
+                    behind: next,
+                };
+                fs.count = n + 1;
+                depth = 1;
                 at = next;
             }
-            Move::Pass(next) => {
+            Move::Past { depth: d, next } => {
+                depth = d;
                 at = next;
-            }
-            Move::Stop => {
-                return fs;
             }
         }
     }

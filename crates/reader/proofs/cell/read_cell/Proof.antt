@@ -12,13 +12,13 @@ value-of-requires c κs = search needs
 enum-known-held : tie.Need-enum-known-held
 enum-known-held c = search needs
 
-bad-cell-requires : tie.Need-bad-cell-requires
-bad-cell-requires c κs = search needs
+no-cell-requires : tie.Need-no-cell-requires
+no-cell-requires c κs = search needs
 
 returns : tie.Need-returns
 returns c =
     let m = subst (Shows _ _) (c .before .before .before .held .given .1) (c .before .before .before .before .before .value-of .ensures) in
-    subst (CellIs _ _) (sym (c .bad-cell .ensures)) (cell-long m _ (c .before .if1 .taken))
+    subst (CellIs _ _) (sym (c .no-cell .ensures)) (cell-long m _ (c .before .if1 .taken))
 
 cell-at-requires : tie.Need-cell-at-requires
 cell-at-requires c κs = search needs
@@ -26,13 +26,13 @@ cell-at-requires c κs = search needs
 enum-told : tie.Need-enum-told
 enum-told c = search needs
 
-bad-cell-requires-2 : tie.Need-bad-cell-requires-2
-bad-cell-requires-2 c κs = search needs
+no-cell-requires-2 : tie.Need-no-cell-requires-2
+no-cell-requires-2 c κs = search needs
 
 returns-2 : tie.Need-returns-2
 returns-2 c =
     let m = subst (Shows _ _) (c .before .before .enum-told .given .1) (c .before .before .before .before .value-of .ensures) in
-    subst (CellIs _ _) (sym (c .bad-cell2 .ensures)) (cell-missing m (c .before .if2 .taken))
+    subst (CellIs _ _) (sym (c .no-cell2 .ensures)) (cell-missing m (c .before .if2 .taken))
 
 returns-3 : tie.Need-returns-3
 returns-3 c =
@@ -50,11 +50,11 @@ read-cell-spec =
     (tie.spec
     value-of-requires
     enum-known-held
-    bad-cell-requires
+    no-cell-requires
     returns
     cell-at-requires
     enum-told
-    bad-cell-requires-2
+    no-cell-requires-2
     returns-2
     returns-3
     returns-4)

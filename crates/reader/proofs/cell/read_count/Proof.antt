@@ -12,38 +12,35 @@ slice-aggregate-value-of c = search needs
 value-of-requires : tie.Need-value-of-requires
 value-of-requires c κs = search needs
 
+enum-known-length : tie.Need-enum-known-length
+enum-known-length c = search needs
+
 enum-told : tie.Need-enum-told
 enum-told c = search needs
 
-enum-known-held : tie.Need-enum-known-held
-enum-known-held c = search needs
-
-bad-cell-requires : tie.Need-bad-cell-requires
-bad-cell-requires c κs = search needs
+no-cell-requires : tie.Need-no-cell-requires
+no-cell-requires c κs = search needs
 
 returns : tie.Need-returns
-returns c =
-    let m = subst (Shows _ _) (c .before .before .before .held .given .1) (c .before .before .before .before .before .value-of .ensures) in
-    count-ragged m (c .before .if1 .taken) (c .bad-cell .ensures)
+returns c = count-missing (subst (Shows _ _) (c .before .enum-told .given .1) (c .before .before .before .value-of .ensures)) (c .no-cell .ensures)
 
-bad-cell-requires-2 : tie.Need-bad-cell-requires-2
-bad-cell-requires-2 c κs = search needs
+no-cell-requires-2 : tie.Need-no-cell-requires-2
+no-cell-requires-2 c κs = search needs
 
 returns-2 : tie.Need-returns-2
-returns-2 c =
-    let m = subst (Shows _ _) (c .before .before .before .before .held .given .1) (c .before .before .before .before .before .before .value-of .ensures) in
-    count-many m (c .before .before .if1 .left) (c .before .if2 .taken) (c .bad-cell2 .ensures)
+returns-2 c = count-ragged (subst (Shows _ _) (c .before .before .before .length .given .1) (c .before .before .before .before .before .value-of .ensures)) (c .before .if1 .taken) (c .no-cell2 .ensures)
 
-cast-t17 : tie.Need-cast-t17
-cast-t17 c = search needs
+no-cell-requires-3 : tie.Need-no-cell-requires-3
+no-cell-requires-3 c κs = search needs
 
 returns-3 : tie.Need-returns-3
-returns-3 c = count-missing (subst (Shows _ _) (c .enum-told .given .1) (c .before .before .value-of .ensures))
+returns-3 c = count-many (subst (Shows _ _) (c .before .before .before .before .length .given .1) (c .before .before .before .before .before .before .value-of .ensures)) (c .before .before .if1 .left) (c .before .if2 .taken) (c .no-cell3 .ensures)
+
+cast-t16 : tie.Need-cast-t16
+cast-t16 c = search needs
 
 returns-4 : tie.Need-returns-4
-returns-4 c =
-    let m = subst (Shows _ _) (c .before .before .before .held .given .1) (c .before .before .before .before .before .value-of .ensures) in
-    count-few m (c .before .if1 .left) (c .if2 .left)
+returns-4 c = count-few (subst (Shows _ _) (c .before .before .before .length .given .1) (c .before .before .before .before .before .value-of .ensures)) (c .before .if1 .left) (c .if2 .left)
 
 pub read-count-spec : {M : Type 1} → statement M
 read-count-spec =
@@ -51,12 +48,13 @@ read-count-spec =
     (tie.spec
     slice-aggregate-value-of
     value-of-requires
+    enum-known-length
     enum-told
-    enum-known-held
-    bad-cell-requires
+    no-cell-requires
     returns
-    bad-cell-requires-2
+    no-cell-requires-2
     returns-2
-    cast-t17
+    no-cell-requires-3
     returns-3
+    cast-t16
     returns-4)

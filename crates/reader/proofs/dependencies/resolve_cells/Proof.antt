@@ -1,8 +1,7 @@
 -- `reader::dependencies::resolve_cells` meets its contract. Assumes nothing.
 use Prim.Native.Nat.{_-_}
-use native.Mathlib.Omega.{arith}
-use borrow.Author.Needs.{needs}
 use Rattle.reader.proofs.CellSlotLaws.{CellsResolved, cells-begin, cells-resolved, cells-more, cells-fail}
+use native.Mathlib.Omega.{arith}
 use Rattle.reader.proofs.dependencies.resolve_cells.Statement.{statement}
 use Rattle.reader.proofs.dependencies.resolve_cells.Tie as tie
 
@@ -16,19 +15,16 @@ loop-holds : tie.Need-loop-holds Inv-loop μ-loop
 loop-holds c = cells-begin _ _ _ _ _ _ _
 
 mul-cell-at : tie.Need-mul-cell-at Inv-loop μ-loop
-mul-cell-at c = search needs
+mul-cell-at c = omega arith
 
 add-cell-at : tie.Need-add-cell-at Inv-loop μ-loop
-add-cell-at c = search needs
+add-cell-at c = omega arith
 
 cell-at-requires : tie.Need-cell-at-requires Inv-loop μ-loop
-cell-at-requires c κs = search needs
+cell-at-requires c κs = omega arith
 
 carrier-below-requires : tie.Need-carrier-below-requires Inv-loop μ-loop
-carrier-below-requires c κs = search needs
-
-same-length : tie.Need-same-length Inv-loop μ-loop
-same-length c = search needs
+carrier-below-requires c κs = omega arith
 
 returns : tie.Need-returns Inv-loop μ-loop
 returns c =
@@ -36,31 +32,28 @@ returns c =
     cells-fail _ _ _ _ _ _ _ l (omega arith) (c .before .before .cell-at .ensures) (omega arith) (c .before .carrier-below .ensures) (omega arith)
 
 cast-slots : tie.Need-cast-slots Inv-loop μ-loop
-cast-slots c = search needs
+cast-slots c = omega arith
 
 add-slots : tie.Need-add-slots Inv-loop μ-loop
-add-slots c = search needs
+add-slots c = omega arith
 
 mul-slots : tie.Need-mul-slots Inv-loop μ-loop
-mul-slots c = search needs
+mul-slots c = omega arith
 
-slice-write-slots : tie.Need-slice-write-slots Inv-loop μ-loop
-slice-write-slots c = search needs
+element-write-slots : tie.Need-element-write-slots Inv-loop μ-loop
+element-write-slots c = omega arith
 
 add-j : tie.Need-add-j Inv-loop μ-loop
-add-j c = search needs
+add-j c = omega arith
 
 loop-less : tie.Need-loop-less Inv-loop μ-loop
-loop-less c = search needs
+loop-less c = omega arith
 
 loop-again : tie.Need-loop-again Inv-loop μ-loop
 loop-again c =
     let l = c .before .before .before .before .loop .inv in
     let k = c .before .carrier-below .ensures in
     cells-more _ _ _ _ _ _ _ l (omega arith) (c .before .before .cell-at .ensures) (omega arith) k (omega arith) (omega arith)
-
-same-length-2 : tie.Need-same-length-2 Inv-loop μ-loop
-same-length-2 c = search needs
 
 returns-2 : tie.Need-returns-2 Inv-loop μ-loop
 returns-2 c = cells-resolved _ _ _ _ _ _ _ (c .before .loop .inv) (omega arith)
@@ -76,14 +69,12 @@ resolve-cells-spec =
     add-cell-at
     cell-at-requires
     carrier-below-requires
-    same-length
     returns
     cast-slots
     add-slots
     mul-slots
-    slice-write-slots
+    element-write-slots
     add-j
     loop-less
     loop-again
-    same-length-2
     returns-2)

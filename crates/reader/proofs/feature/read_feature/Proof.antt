@@ -7,6 +7,15 @@ use Rattle.reader.proofs.feature.read_feature.Tie as tie
 read-cells-requires : tie.Need-read-cells-requires
 read-cells-requires c κs = search needs
 
+phandle-noted-requires : tie.Need-phandle-noted-requires
+phandle-noted-requires c κs = search needs
+
+mul-phandles : tie.Need-mul-phandles
+mul-phandles c = search needs
+
+element-write-phandles : tie.Need-element-write-phandles
+element-write-phandles c = search needs
+
 refusal-of-requires : tie.Need-refusal-of-requires
 refusal-of-requires c κs = search needs
 
@@ -14,8 +23,16 @@ feature-of-requires : tie.Need-feature-of-requires
 feature-of-requires c κs = search needs
 
 returns : tie.Need-returns
-returns c = feature-is (c .before .before .read-cells .ensures) (c .before .refusal-of .ensures) (c .feature-of .ensures)
+returns c = feature-is (c .before .before .before .read-cells .ensures) (c .before .refusal-of .ensures) (c .feature-of .ensures) (c .before .before .phandle-noted .ensures)
 
 pub read-feature-spec : {M : Type 1} → statement M
 read-feature-spec =
-    tie.close (tie.spec read-cells-requires refusal-of-requires feature-of-requires returns)
+    tie.close
+    (tie.spec
+    read-cells-requires
+    phandle-noted-requires
+    mul-phandles
+    element-write-phandles
+    refusal-of-requires
+    feature-of-requires
+    returns)

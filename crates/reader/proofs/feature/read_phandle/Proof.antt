@@ -1,6 +1,7 @@
 -- `reader::feature::read_phandle` meets its contract. Assumes nothing.
+use borrow.Author.Tests.{not-true, not-false}
+use Rattle.reader.proofs.PhandleReadLaws.{phandle-absent, phandle-zero, phandle-again, phandle-new}
 use native.Mathlib.Omega.{arith}
-use Rattle.reader.proofs.PhandleReadLaws.{phandle-again, phandle-absent, phandle-new}
 use borrow.Author.Needs.{needs}
 use Rattle.reader.proofs.feature.read_phandle.Statement.{statement}
 use Rattle.reader.proofs.feature.read_phandle.Tie as tie
@@ -11,38 +12,35 @@ slice-aggregate-read-cell c = search needs
 read-cell-requires : tie.Need-read-cell-requires
 read-cell-requires c κs = search needs
 
-in-range-requires : tie.Need-in-range-requires
-in-range-requires c κs = search needs
+at-most-requires : tie.Need-at-most-requires
+at-most-requires c κs = search needs
 
-enum-told : tie.Need-enum-told
-enum-told c = search needs
+returns : tie.Need-returns
+returns c = phandle-absent (c .before .before .before .read-cell .ensures) (omega arith) (c .before .before .at-most .ensures) (not-true _ (c .if1 .taken))
 
-enum-known-cell : tie.Need-enum-known-cell
-enum-known-cell c = search needs
+no-cell-requires : tie.Need-no-cell-requires
+no-cell-requires c κs = search needs
+
+returns-2 : tie.Need-returns-2
+returns-2 c =
+    phandle-zero (c .before .before .before .before .before .before .read-cell .ensures) (omega arith) (c .before .before .before .before .before .at-most .ensures) (not-false _ (c .before .before .before .if1 .left)) (c .before .if2 .taken)
+    (c .no-cell .ensures)
 
 carrier-below-requires : tie.Need-carrier-below-requires
 carrier-below-requires c κs = search needs
 
-bad-cell-requires : tie.Need-bad-cell-requires
-bad-cell-requires c κs = search needs
-
-returns : tie.Need-returns
-returns c =
-    phandle-again (c .before .before .before .before .before .before .before .read-cell .ensures) _
-    (c .before .before .before .before .before .before .before .read-cell .ok) (c .before .before .before .before .before .before .in-range .ensures)
-    (c .before .before .before .before .cell .given .1) (omega arith) _ (c .before .before .carrier-below .ensures) (c .before .if1 .taken)
-    (c .bad-cell .ensures)
-
-returns-2 : tie.Need-returns-2
-returns-2 c =
-    phandle-absent (c .before .before .before .read-cell .ensures) _ (c .before .before .before .read-cell .ok) (c .before .before .in-range .ensures)
-    (c .enum-told .given .1)
+no-cell-requires-2 : tie.Need-no-cell-requires-2
+no-cell-requires-2 c κs = search needs
 
 returns-3 : tie.Need-returns-3
 returns-3 c =
-    phandle-new (c .before .before .before .before .before .before .read-cell .ensures) _
-    (c .before .before .before .before .before .before .read-cell .ok) (c .before .before .before .before .before .in-range .ensures)
-    (c .before .before .before .cell .given .1) (omega arith) _ (c .before .carrier-below .ensures) (c .if1 .left)
+    phandle-again (c .before .before .before .before .before .before .before .before .read-cell .ensures) (omega arith) (c .before .before .before .before .before .before .before .at-most .ensures) (not-false _ (c .before .before .before .before .before .if1 .left)) (c .before .before .before .if2 .left) _
+    (c .before .before .carrier-below .ensures) (c .before .if3 .taken) (c .no-cell2 .ensures)
+
+returns-4 : tie.Need-returns-4
+returns-4 c =
+    phandle-new (c .before .before .before .before .before .before .before .read-cell .ensures) (omega arith) (c .before .before .before .before .before .before .at-most .ensures) (not-false _ (c .before .before .before .before .if1 .left)) (c .before .before .if2 .left) _
+    (c .before .carrier-below .ensures) (c .if3 .left)
 
 pub read-phandle-spec : {M : Type 1} → statement M
 read-phandle-spec =
@@ -50,11 +48,11 @@ read-phandle-spec =
     (tie.spec
     slice-aggregate-read-cell
     read-cell-requires
-    in-range-requires
-    enum-told
-    enum-known-cell
-    carrier-below-requires
-    bad-cell-requires
+    at-most-requires
     returns
+    no-cell-requires
     returns-2
-    returns-3)
+    carrier-below-requires
+    no-cell-requires-2
+    returns-3
+    returns-4)

@@ -31,7 +31,7 @@ search-holds : tie.Need-search-holds Inv-loop μ-loop Inv-search μ-search
 search-holds c = (c .before .pre, refl, search-begins _ _)
 
 mul-p : tie.Need-mul-p Inv-loop μ-loop Inv-search μ-search
-mul-p c = search needs
+mul-p c = omega arith
 
 element-copy-out-p : tie.Need-element-copy-out-p Inv-loop μ-loop Inv-search μ-search
 element-copy-out-p c = omega (arith, c .before .search .inv .0)
@@ -42,7 +42,7 @@ loop-holds c =
     (s .0, s .1, refl, row-begins _ _ (s .2) (omega arith))
 
 mul-q : tie.Need-mul-q Inv-loop μ-loop Inv-search μ-search
-mul-q c = search needs
+mul-q c = omega arith
 
 element-copy-out-q : tie.Need-element-copy-out-q Inv-loop μ-loop Inv-search μ-search
 element-copy-out-q c =
@@ -53,10 +53,10 @@ same-name-requires : tie.Need-same-name-requires Inv-loop μ-loop Inv-search μ-
 same-name-requires c κs = search needs
 
 add-j : tie.Need-add-j Inv-loop μ-loop Inv-search μ-search
-add-j c = search needs
+add-j c = omega arith
 
 loop-less : tie.Need-loop-less Inv-loop μ-loop Inv-search μ-search
-loop-less c = search needs
+loop-less c = omega arith
 
 loop-again : tie.Need-loop-again Inv-loop μ-loop Inv-search μ-search
 loop-again c =
@@ -64,10 +64,10 @@ loop-again c =
     (l .0, l .1, l .2, row-more _ _ (l .3) (omega arith) (sym (same-is _ _ _ _ _ (l .2) (c .before .same-name .ensures)) ∙ c .if1 .left))
 
 add-i : tie.Need-add-i Inv-loop μ-loop Inv-search μ-search
-add-i c = search needs
+add-i c = omega arith
 
 search-less : tie.Need-search-less Inv-loop μ-loop Inv-search μ-search
-search-less c = search needs
+search-less c = omega arith
 
 search-again : tie.Need-search-again Inv-loop μ-loop Inv-search μ-search
 search-again c =

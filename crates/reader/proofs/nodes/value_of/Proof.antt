@@ -8,7 +8,7 @@ use Rattle.tokens.specs.Tokens.{tokens}
 use Rattle.tokens.proofs.TokenList.{property-moves, nop-moves}
 use Rattle.properties.specs.Properties.{nameAt}
 use Rattle.reading.specs.Values.{valueIn}
-use Rattle.reader.proofs.ValueLaws.{value-past, value-nop, value-begin, value-end-node, value-end, value-fault, value-other, value-here}
+use Rattle.reader.proofs.ValueLaws.{value-past, value-nop, value-none, value-other, value-here}
 use Rattle.reader.proofs.nodes.value_of.Statement.{statement}
 use Rattle.reader.proofs.nodes.value_of.Tie as tie
 
@@ -66,40 +66,11 @@ loop-again-2 c =
     let e = sym (c .before .before .before .step .ensures) ∙ c .before .step3 .given .1 in
     (l .0, sym (value-nop _ _ _ _ _ e) ∙ l .1)
 
-enum-told : tie.Need-enum-told Inv-loop μ-loop
-enum-told c = search needs
-
 returns-2 : tie.Need-returns-2 Inv-loop μ-loop
-returns-2 c =
-    sym (c .before .before .before .before .loop .inv .1)
-    ∙ value-begin _ _ _ _ _ (sym (c .before .before .step .ensures) ∙ c .enum-told .given .1)
-
-enum-told-2 : tie.Need-enum-told-2 Inv-loop μ-loop
-enum-told-2 c = search needs
+returns-2 c = sym (c .before .before .before .loop .inv .1) ∙ value-none _ _ _ _ _ _ (c .before .step .ensures) (c .match .keys3)
 
 returns-3 : tie.Need-returns-3 Inv-loop μ-loop
-returns-3 c =
-    sym (c .before .before .before .before .loop .inv .1)
-    ∙ value-end-node _ _ _ _ _ (sym (c .before .before .step .ensures) ∙ c .enum-told2 .given .1)
-
-enum-told-3 : tie.Need-enum-told-3 Inv-loop μ-loop
-enum-told-3 c = search needs
-
-returns-4 : tie.Need-returns-4 Inv-loop μ-loop
-returns-4 c =
-    sym (c .before .before .before .before .loop .inv .1)
-    ∙ value-end _ _ _ _ _ (sym (c .before .before .step .ensures) ∙ c .enum-told3 .given .1)
-
-enum-told-4 : tie.Need-enum-told-4 Inv-loop μ-loop
-enum-told-4 c = search needs
-
-returns-5 : tie.Need-returns-5 Inv-loop μ-loop
-returns-5 c =
-    sym (c .before .before .before .before .loop .inv .1)
-    ∙ value-fault _ _ _ _ _ (sym (c .before .before .step .ensures) ∙ c .enum-told4 .given .1)
-
-returns-6 : tie.Need-returns-6 Inv-loop μ-loop
-returns-6 c = sym (c .before .loop .inv .1) ∙ value-past _ _ _ _ _ (omega arith)
+returns-3 c = sym (c .before .loop .inv .1) ∙ value-past _ _ _ _ _ (omega arith)
 
 pub value-of-spec : {M : Type 1} → statement M
 value-of-spec =
@@ -117,12 +88,5 @@ value-of-spec =
     enum-known-step-2
     loop-less-2
     loop-again-2
-    enum-told
     returns-2
-    enum-told-2
-    returns-3
-    enum-told-3
-    returns-4
-    enum-told-4
-    returns-5
-    returns-6)
+    returns-3)
