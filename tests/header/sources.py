@@ -18,7 +18,7 @@ LIMITS = [
     ("record", "SLOTS"),
     ("record", "HIGHEST_BIT"),
     ("positions", "WORDS"),
-    ("enabled", "TABLE_WORDS"),
+    ("tables", "TABLE_WORDS"),
     ("sizes", "MOST_SIZES"),
     ("sizes", "LARGEST_EXPONENT"),
     ("segments", "MOST_DESCRIPTORS"),

@@ -20,11 +20,11 @@ use Rattle.capi.specs.declared.resolver.YebkuzanEnabled.{YebkuzanEnabled
 use Rattle.capi.specs.declared.resolver.YebkuzanReach.{YebkuzanReach}
 use Rattle.capi.specs.declared.resolver.YebkuzanWords.{YebkuzanWords}
 use Rattle.capi.specs.declared.cpu.YebkuzanProperty.{YebkuzanProperty}
-use Rattle.capi.specs.declared.tables.YebkuzanSizes.{YebkuzanSizes}
-use Rattle.capi.specs.declared.tables.YebkuzanSegments.{YebkuzanSegments}
-use Rattle.capi.specs.declared.tables.YebkuzanPaFeatures.{YebkuzanPaFeatures}
-use Rattle.capi.specs.declared.tables.YebkuzanPiFeatures.{YebkuzanPiFeatures}
-use Rattle.capi.specs.declared.tables.YebkuzanBusFrequency.{YebkuzanBusFrequency}
+use Rattle.capi.specs.declared.cpu_tables.YebkuzanSizes.{YebkuzanSizes}
+use Rattle.capi.specs.declared.cpu_tables.YebkuzanSegments.{YebkuzanSegments}
+use Rattle.capi.specs.declared.cpu_tables.YebkuzanPaFeatures.{YebkuzanPaFeatures}
+use Rattle.capi.specs.declared.cpu_tables.YebkuzanPiFeatures.{YebkuzanPiFeatures}
+use Rattle.capi.specs.declared.cpu_tables.YebkuzanBusFrequency.{YebkuzanBusFrequency}
 use Rattle.capi.specs.declared.text.YebkuzanUnit.{YebkuzanUnit}
 
 pub same-read : (a b : YebkuzanRead) → readOutcomeC a ≡ readOutcomeC b → a ≡ b

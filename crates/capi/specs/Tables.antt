@@ -5,11 +5,11 @@ use Rattle.sizes.specs.declared.SizeTable.{SizeTable}
 use Rattle.segments.specs.declared.SegmentTable.{SegmentTable}
 use Rattle.attributes.specs.declared.PaTable.{PaTable}
 use Rattle.attributes.specs.declared.PiTable.{PiTable}
-use Rattle.capi.specs.declared.tables.YebkuzanSizes.{YebkuzanSizes}
-use Rattle.capi.specs.declared.tables.YebkuzanSegments.{YebkuzanSegments}
-use Rattle.capi.specs.declared.tables.YebkuzanPaFeatures.{YebkuzanPaFeatures}
-use Rattle.capi.specs.declared.tables.YebkuzanPiFeatures.{YebkuzanPiFeatures}
-use Rattle.capi.specs.declared.tables.YebkuzanBusFrequency.{YebkuzanBusFrequency}
+use Rattle.capi.specs.declared.cpu_tables.YebkuzanSizes.{YebkuzanSizes}
+use Rattle.capi.specs.declared.cpu_tables.YebkuzanSegments.{YebkuzanSegments}
+use Rattle.capi.specs.declared.cpu_tables.YebkuzanPaFeatures.{YebkuzanPaFeatures}
+use Rattle.capi.specs.declared.cpu_tables.YebkuzanPiFeatures.{YebkuzanPiFeatures}
+use Rattle.capi.specs.declared.cpu_tables.YebkuzanBusFrequency.{YebkuzanBusFrequency}
 
 abbrev pub sizesOutcomeC : YebkuzanSizes → Outcome SizeTable
 sizesOutcomeC t = record { number = t .number; value = t .table }

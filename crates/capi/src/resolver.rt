@@ -1,14 +1,15 @@
 // The resolver: what is permitted and enabled, and why a feature is left out.
 use crate::YebkuzanWritten;
 use enabled::Enabled;
-use enabled::Rows;
 use permitted::Grants;
 use positions::Set;
 use record::Record;
+use tables::Rows;
 ghost use mathlib.Core.Path.{_≡_};
 ghost use lib.ListN.{length};
 ghost use Rattle.permitted.specs.Asked.{permitted as permittedOf};
-ghost use Rattle.enabled.specs.Answers.{enable, reachOf, enableByTable, enabledOutcome};
+ghost use Rattle.enabled.specs.Answers.{enable, enabledOutcome};
+ghost use Rattle.reach.specs.Answers.{reachOf, enableByTable};
 ghost use Rattle.chain.specs.Chain.{chain as chainOf, afterChain};
 ghost use Rattle.words.specs.Words.{words as wordsAnswer};
 ghost use Rattle.capi.specs.Answers.{
@@ -100,7 +101,7 @@ pub extern "C" fn yebkuzan_enable(r: Record, level: u32, g: Grants) -> YebkuzanE
 pub extern "C" fn yebkuzan_reach_table(r: Record) -> YebkuzanReach
     ensures { λ t. ⌜ reachOutcomeC t ≡ reachOf r ⌝ }
 {
-    let reached = enabled::reach_table(r);
+    let reached = reach::reach_table(r);
     let refusal = reached.refusal;
     let rows = reached.rows;
     YebkuzanReach {
@@ -119,7 +120,7 @@ pub extern "C" fn yebkuzan_enable_by_table(
 ) -> YebkuzanEnabled
     ensures { λ e. ⌜ enabledOutcomeC e ≡ enableByTable r (table .words) level g ⌝ }
 {
-    numbered(enabled::enable_by_table(r, table, level, g))
+    numbered(reach::enable_by_table(r, table, level, g))
 }
 
 // The chain of a feature that is left out, a byte a position, into the front of a lent buffer: 14, 15, 16, 17, 18.

@@ -27,7 +27,8 @@ use Rattle.reading.proofs.Dependencies.{read-dependencies, unfound-refused}
 use Rattle.permitted.specs.declared.Grants.{Grants}
 use Rattle.permitted.specs.Permitted.{permittedSet}
 use Rattle.permitted.specs.Asked.{askedChecks, dependencyCounts, examined, permitted}
-use Rattle.enabled.specs.Answers.{membersOf, enabledSet, enable, reachTable, reachOf, enabledByTable, enableByTable}
+use Rattle.enabled.specs.Answers.{membersOf, enabledSet, enable}
+use Rattle.reach.specs.Answers.{reachTable, reachOf, enabledByTable, enableByTable}
 use Rattle.chain.specs.Chain.{chainIn, chainChecks, chain, afterChain}
 use Rattle.words.specs.Words.{noWords, words}
 use Rattle.capi.specs.Answers.{formNumber}

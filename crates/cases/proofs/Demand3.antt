@@ -21,17 +21,18 @@ use Rattle.reading.proofs.Formed.{read-formed}
 use Rattle.permitted.specs.declared.Grants.{Grants}
 use Rattle.permitted.specs.Permitted.{permittedSet}
 use Rattle.permitted.specs.Asked.{askedChecks}
-use Rattle.enabled.specs.Graph.{Below}
+use Rattle.tables.specs.Tables.{inRow, tableOf}
+use Rattle.tables.proofs.TableLaws.{in-table}
+use Rattle.enabled.specs.Graph.{Below, dependenciesIn, dependencyIn}
 use Rattle.enabled.specs.Enabled.{enabled}
 use Rattle.enabled.specs.Chain.{Chain, Smallest}
+use Rattle.enabled.specs.Reach.{Needs, reach, enabledByReach}
+use Rattle.enabled.specs.Answers.{membersOf, nobody, enabledSet, enable}
+use Rattle.enabled.proofs.Demand3 as sets
+use Rattle.reach.specs.Answers.{reachTable, enabledByTable, enableByTable}
 use Rattle.chain.specs.Chain.{chainIn}
 use Rattle.chain.proofs.Told.{told-smallest, told-fits}
 use Rattle.cases.specs.Demand3.{Demand3}
-use Rattle.enabled.specs.Reach.{Needs, reach, enabledByReach}
-use Rattle.enabled.specs.Tables.{inRow, tableOf, dependenciesIn, dependencyIn}
-use Rattle.enabled.specs.Answers.{membersOf, nobody, enabledSet, enable, reachTable, enabledByTable, enableByTable}
-use Rattle.enabled.proofs.TableLaws.{in-table}
-use Rattle.enabled.proofs.Demand3 as sets
 
 -- the graph of a well formed record
 graph : (r : Record) → wellFormed r ≡ true → Below (r .count) (dependenciesIn r) (dependencyIn r)

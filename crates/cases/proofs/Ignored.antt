@@ -16,9 +16,10 @@ use Rattle.permitted.specs.declared.Grants.{Grants}
 use Rattle.permitted.specs.Permitted.{hypervisor, permittedSet}
 use Rattle.permitted.specs.Asked.{askedChecks, permitted}
 use Rattle.permitted.proofs.GrantLaws.{only-below, isa-ignored}
+use Rattle.tables.specs.Tables.{inRow, tableWords}
 use Rattle.enabled.specs.Reach.{enabledByReach}
-use Rattle.enabled.specs.Tables.{inRow, tableWords}
-use Rattle.enabled.specs.Answers.{membersOf, nobody, enabledSet, enable, reachOf, enabledByTable, enableByTable}
+use Rattle.enabled.specs.Answers.{membersOf, nobody, enabledSet, enable}
+use Rattle.reach.specs.Answers.{reachOf, enabledByTable, enableByTable}
 use Rattle.chain.specs.Chain.{isEnabled, chainIn, chainChecks, chain, afterChain}
 use Rattle.words.specs.Words.{WordValues, noWords, wordsOf, words}
 use Rattle.cases.specs.Ignored.{ButAbove, ButIsa}

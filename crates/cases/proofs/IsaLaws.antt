@@ -22,13 +22,14 @@ use Rattle.record.specs.WellFormed.{bitsFit, dependenciesFit, featureFits, well
 use Rattle.record.proofs.Formed.{formed}
 use Rattle.permitted.specs.declared.Grants.{Grants}
 use Rattle.permitted.specs.Permitted.{withIsa, system, hypervisor}
-use Rattle.enabled.specs.Graph.{Below}
+use Rattle.tables.specs.Tables.{tableOf}
+use Rattle.tables.proofs.TableLaws.{table-same}
+use Rattle.enabled.specs.Graph.{Below, dependenciesIn, dependencyIn}
 use Rattle.enabled.specs.Enabled.{enabled}
 use Rattle.enabled.specs.Reach.{reach}
 use Rattle.enabled.specs.Shortest.{shortestChain}
-use Rattle.enabled.specs.Tables.{tableOf, dependenciesIn, dependencyIn}
-use Rattle.enabled.specs.Answers.{enabledSet, reachTable}
-use Rattle.enabled.proofs.TableLaws.{table-same}
+use Rattle.enabled.specs.Answers.{enabledSet}
+use Rattle.reach.specs.Answers.{reachTable}
 use Rattle.chain.specs.Chain.{isEnabled, chainIn}
 use Rattle.words.specs.Words.{wordOf, isNumber, capabilityBit, supportBit, capabilityWord, registerWord, wordsOf}
 use Rattle.cases.specs.Ignored.{ButIsa}

@@ -29,8 +29,9 @@ use Rattle.reading.specs.Accepted.{featuresOf, dependenciesOf}
 use Rattle.reading.specs.Resolved.{Resolved}
 use Rattle.permitted.specs.declared.Grants.{Grants}
 use Rattle.permitted.specs.Asked.{Seen, examined, permitted}
-use Rattle.enabled.specs.Tables.{tableWords}
-use Rattle.enabled.specs.Answers.{Members, enable, reachOf, enableByTable}
+use Rattle.tables.specs.Tables.{tableWords}
+use Rattle.enabled.specs.Answers.{Members, enable}
+use Rattle.reach.specs.Answers.{reachOf, enableByTable}
 use Rattle.chain.specs.Chain.{chain, afterChain}
 use Rattle.words.specs.Words.{noWords, words}
 use Rattle.capi.specs.Answers.{formNumber}

@@ -9,10 +9,12 @@ use Rattle.positions.specs.Sets.{room, has}
 use Rattle.record.specs.declared.Record.{Record}
 use Rattle.permitted.specs.declared.Grants.{Grants}
 use Rattle.permitted.specs.Permitted.{permittedSet}
+use Rattle.tables.specs.Tables.{inRow}
 use Rattle.enabled.specs.Chain.{Chain, Smallest}
 use Rattle.enabled.specs.Reach.{Needs}
-use Rattle.enabled.specs.Tables.{inRow, dependenciesIn, dependencyIn}
-use Rattle.enabled.specs.Answers.{enabledSet, enable, reachTable, enabledByTable, enableByTable}
+use Rattle.enabled.specs.Graph.{dependenciesIn, dependencyIn}
+use Rattle.enabled.specs.Answers.{enabledSet, enable}
+use Rattle.reach.specs.Answers.{reachTable, enabledByTable, enableByTable}
 use Rattle.chain.specs.Chain.{chainIn}
 
 -- the permitted set, and the enabled set

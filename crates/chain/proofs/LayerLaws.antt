@@ -11,7 +11,7 @@ use Rattle.positions.proofs.BelowLaws.{and-left, and-right}
 use Rattle.positions.proofs.SetLaws.{has-collect, collect-is}
 use Rattle.positions.proofs.MemberLaws.{set-of-words, common-member, subset-at, subset-of, subset-same, subset-on}
 use Rattle.record.specs.Record.{mostFeatures}
-use Rattle.enabled.specs.Tables.{rowAt, rowsInside}
+use Rattle.tables.specs.Tables.{rowAt, rowsInside}
 use Rattle.chain.specs.Layers.{isLeft, swept, layerAt}
 
 -- the members that a sweep leaves

@@ -16,9 +16,8 @@ use Rattle.record.specs.WellFormed.{wellFormed}
 use Rattle.permitted.specs.declared.Grants.{Grants}
 use Rattle.permitted.specs.Permitted.{hypervisor, permittedSet}
 use Rattle.permitted.specs.Asked.{askedChecks}
-use Rattle.enabled.specs.Graph.{Below}
+use Rattle.enabled.specs.Graph.{Below, dependenciesIn, dependencyIn}
 use Rattle.enabled.specs.Chain.{Chain, Shortest, Smallest}
-use Rattle.enabled.specs.Tables.{dependenciesIn, dependencyIn}
 use Rattle.enabled.proofs.DependencyLaws.{graph-below}
 use Rattle.enabled.proofs.AnswerLaws.{few}
 use Rattle.enabled.proofs.Demand3.{reported-chain, reported-shortest, reported-smallest, reported-fits}

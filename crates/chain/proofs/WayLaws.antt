@@ -10,9 +10,9 @@ use lib.ListN.{length}
 use Rattle.positions.specs.Sets.{room, has, memberOutside}
 use Rattle.positions.proofs.BelowLaws.{and-left, and-right}
 use Rattle.positions.proofs.FirstLaws.{first-is}
+use Rattle.tables.specs.Tables.{rowAt}
 use Rattle.enabled.specs.Enabled.{afterSweeps}
 use Rattle.enabled.specs.Shortest.{next, chainWithin}
-use Rattle.enabled.specs.Tables.{rowAt}
 use Rattle.enabled.specs.Parts.{Shows}
 use Rattle.enabled.proofs.Sweeps.{sweeps-dependencies}
 use Rattle.enabled.proofs.Smallest.{smallest-is, smallest-le}

@@ -10,8 +10,8 @@ use Rattle.cells.proofs.Buffer.{written-none, length-written}
 use Rattle.positions.specs.Below.{firstThat}
 use Rattle.positions.specs.Sets.{room, memberOutside}
 use Rattle.record.specs.Record.{mostFeatures}
-use Rattle.enabled.specs.Tables.{rowOrNone}
-use Rattle.enabled.proofs.RowLaws.{row-low}
+use Rattle.tables.specs.Tables.{rowOrNone}
+use Rattle.tables.proofs.RowLaws.{row-low}
 use Rattle.chain.specs.Layers.{nextBelow, wayDown, AllBelow}
 
 -- one byte more behind what is written

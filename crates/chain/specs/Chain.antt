@@ -14,7 +14,7 @@ use Rattle.permitted.specs.Permitted.{permittedSet}
 use Rattle.permitted.specs.Asked.{askedChecks}
 use Rattle.enabled.specs.Enabled.{enabled}
 use Rattle.enabled.specs.Shortest.{shortestChain}
-use Rattle.enabled.specs.Tables.{dependenciesIn, dependencyIn}
+use Rattle.enabled.specs.Graph.{dependenciesIn, dependencyIn}
 use Rattle.chain.specs.declared.ChainTold.{ChainTold}
 
 -- whether a position is enabled, where those of a set are permitted

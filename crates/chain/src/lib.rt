@@ -1,10 +1,10 @@
 // The shortest chain of dependencies from a feature left out to an unpermitted one.
-use enabled::TABLE_WORDS;
 use permitted::Grants;
 use positions::Set;
 use record::MOST_FEATURES;
 use record::Record;
 use refusal::Refusal;
+use tables::TABLE_WORDS;
 ghost use mathlib.Core.Path.{_≡_};
 ghost use Prim.Native.Nat.{_≤_, _<_};
 ghost use lib.ListN.{length};
@@ -34,7 +34,7 @@ fn layer(table: &[u64; TABLE_WORDS], n: usize, s: Set) -> Set
     requires { ⌜ n ≤ mostFeatures ⌝ }
     ensures { λ r. ⌜ r .words ≡ swept (now (table .entry)) n (s .words) ⌝ }
 {
-    positions::intersection(s, enabled::inside_rows(table, n, s))
+    positions::intersection(s, tables::inside_rows(table, n, s))
 }
 
 // The layers of a set that hold position `i`. At most `n` rounds: each is one sweep, and compares two sets, a step a word.
@@ -90,7 +90,7 @@ fn write_chain(table: &[u64; TABLE_WORDS], l: Layers, i: usize, out: &mut [u8])
         place += 1;
         k -= 1;
         let s = l.sets[k];
-        at = positions::lowest_outside(enabled::row(table, at), s);
+        at = positions::lowest_outside(tables::row(table, at), s);
     }
     out[place] = at as u8;
 }
@@ -138,6 +138,6 @@ pub fn chain(r: Record, level: u32, g: Grants, position: u32, out: &mut [u8]) ->
     if refusal::number(refusal) != 0 {
         return refused(refusal);
     }
-    let rows = enabled::dependency_rows(&slots, &x.counts, n);
+    let rows = tables::dependency_rows(&slots, &x.counts, n);
     chain_in(&rows.words, n, x.set, position as usize, out)
 }

@@ -12,9 +12,9 @@ use Rattle.record.specs.Record.{mostFeatures}
 use Rattle.record.specs.WellFormed.{wellFormed}
 use Rattle.record.proofs.Formed.{formed}
 use Rattle.permitted.specs.Asked.{dependencyCounts}
-use Rattle.enabled.specs.Tables.{dependenciesIn}
+use Rattle.tables.proofs.RowLaws.{each-at}
+use Rattle.enabled.specs.Graph.{dependenciesIn}
 use Rattle.enabled.specs.Parts.{CountsOf}
-use Rattle.enabled.proofs.RowLaws.{each-at}
 
 pub seen-counts : (r : Record) → wellFormed r ≡ true → {counts : List ℕ} → counts ≡ dependencyCounts r → CountsOf r counts
 unfolding dependencyCounts

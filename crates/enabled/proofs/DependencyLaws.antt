@@ -1,6 +1,5 @@
--- Laws of the dependencies of a record: the table of them as the code builds it, the graph that it shows, and the largest closed part.
--- Assumes nothing.
-use Prim.Native.Nat.{ℕ, _+_, _*_, _<_, min}
+-- Laws of the dependencies of a record: the graph that the table of them shows, and the largest closed part. Assumes nothing.
+use Prim.Native.Nat.{ℕ, _<_, min}
 use mathlib.Core.Path.{_≡_, refl, sym, ap, _∙_}
 use mathlib.Core.Bool.{Bool, true, false, _&&_}
 use mathlib.Core.List.{List}
@@ -9,34 +8,23 @@ use borrow.Author.Tests.{lt-ltb}
 use lib.Dec.{eqb, ltb}
 use lib.ListN.{getD}
 use Rattle.positions.specs.Below.{some}
-use Rattle.positions.specs.Sets.{setWords, has, setOf}
+use Rattle.positions.specs.Sets.{setWords, has}
 use Rattle.positions.proofs.BelowLaws.{every-of}
 use Rattle.positions.proofs.SetLaws.{collect-same}
 use Rattle.record.specs.declared.Record.{Record}
 use Rattle.record.specs.Record.{mostFeatures, mostDependencies}
 use Rattle.record.specs.WellFormed.{wellFormed}
 use Rattle.record.proofs.Formed.{formed}
-use Rattle.enabled.specs.Graph.{Below}
-use Rattle.enabled.specs.Tables.{rowAt, tableOf, dependenciesIn, dependencyIn, dependencyTable}
+use Rattle.tables.specs.Tables.{rowAt, dependencyTable}
+use Rattle.tables.specs.Slots.{slotNumber, slotOf}
+use Rattle.tables.proofs.DependencyLaws.{inSlots}
+use Rattle.tables.proofs.TableLaws.{in-table}
+use Rattle.enabled.specs.Graph.{Below, dependenciesIn, dependencyIn}
 use Rattle.enabled.specs.Enabled.{enabled}
-use Rattle.enabled.specs.Slots.{slotNumber, slotOf, slotsBelow, closedAmong, closedPart}
+use Rattle.enabled.specs.Slots.{slotsBelow, closedAmong, closedPart}
 use Rattle.enabled.specs.Answers.{enabledSet}
-use Rattle.enabled.specs.Parts.{slotSet, CountsOf, Shows}
+use Rattle.enabled.specs.Parts.{CountsOf, Shows}
 use Rattle.enabled.proofs.Sweeps.{sweeps-agree}
-use Rattle.enabled.proofs.TableLaws.{in-table}
-
-module _ (slots counts : List ℕ) where
-  -- position t is among the first slots of position i, as many as are counted, sixteen at most
-  unfoldable pub inSlots : ℕ → ℕ → Bool
-  inSlots i t = some (min (getD counts i 0) mostDependencies) (λ (j : ℕ). eqb (getD slots (mostDependencies * i + j) 0) t)
-
-  pub slots-row : (i : ℕ) {m : ℕ} → m ≡ min (getD counts i 0) mostDependencies → slotSet slots i m ≡ setOf (inSlots i)
-  unfolding slotSet inSlots
-  slots-row i e = rw e
-
-  pub rows-all : (i n : ℕ) (table : List ℕ) → table ≡ tableOf i inSlots → i ≡ min n mostFeatures → table ≡ dependencyTable slots counts n
-  unfolding dependencyTable inSlots
-  rows-all i n table e q = e ∙ ap (λ (m : ℕ). tableOf m inSlots) q
 
 and-true : (b : Bool) → b && true ≡ b
 and-true true = refl

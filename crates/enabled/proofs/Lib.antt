@@ -7,16 +7,11 @@ pub mod ByReach
 pub mod Smallest
 pub mod Shortest
 pub mod Demand3
-pub mod RowLaws
-pub mod TableLaws
 pub mod SlotLaws
 pub mod DependencyLaws
 pub mod CountLaws
 pub mod PassLaws
 pub mod SweepLaws
 pub mod PickLaws
-pub mod ThroughLaws
-pub mod JoinLaws
-pub mod InsideLaws
 pub mod AnswerLaws
 pub mod Answers

@@ -1,38 +1,19 @@
--- Laws of the slots of a position: the set of them, and whether they are members of a set. Assumes nothing.
-use Prim.Native.Nat.{ℕ, _+_, _*_, _<_}
+-- Laws of the slots of a position: whether they are members of a set. Assumes nothing.
+use Prim.Native.Nat.{ℕ, _+_, _<_}
 use mathlib.Core.Path.{_≡_, refl, sym, ap, ap₂, _∙_}
-use mathlib.Core.Bool.{Bool, true, false, _&&_, _||_}
+use mathlib.Core.Bool.{Bool, true, false, _&&_}
 use mathlib.Core.List.{List}
 use native.Mathlib.Decide.{decLt}
-use native.Mathlib.Numerals.{add-one}
 use native.Mathlib.Omega.{arith}
 use borrow.Author.Tests.{lt-ltb, ltb-true}
-use lib.Dec.{eqb, ltb}
-use lib.ListN.{getD}
-use Rattle.positions.specs.Below.{every, some}
-use Rattle.positions.specs.Sets.{setWords, room, has, setOf, noMembers, withMember, isSubset}
+use lib.Dec.{ltb}
+use Rattle.positions.specs.Below.{every}
+use Rattle.positions.specs.Sets.{setWords, room, has, isSubset}
 use Rattle.positions.proofs.BelowLaws.{no-way, and-left, and-right, and-false, every-at, every-of, every-not, every-more}
 use Rattle.positions.proofs.SetLaws.{WordList, has-past}
-use Rattle.positions.proofs.MemberLaws.{has-set-of, set-of-same, subset-at}
-use Rattle.record.specs.Record.{mostDependencies}
-use Rattle.enabled.specs.Slots.{slotNumber, slotOf}
-use Rattle.enabled.specs.Parts.{slotSet, isMember, slotsHeld, slotsIn}
-
--- the set of the slots read
-pub slots-none : (slots : List ℕ) (i : ℕ) → setOf noMembers ≡ slotSet slots i 0
-unfolding noMembers slotSet some
-slots-none slots i = refl
-
-some-more : (n : ℕ) (p : ℕ → Bool) → some n p || p n ≡ some (n + 1) p
-unfolding some
-some-more n p = rw (add-one n)
-
-pub slots-more : (slots : List ℕ) (i j : ℕ) {s : List ℕ} → s ≡ slotSet slots i j
-    → withMember s (getD slots (mostDependencies * i + j) 0) ≡ slotSet slots i (j + 1)
-unfolding slotSet withMember
-slots-more slots i j e =
-    let slot : ℕ → ℕ → Bool = λ t j. eqb (getD slots (mostDependencies * i + j) 0) t in
-    rw e (set-of-same _ _ (λ t h. ap (λ (b : Bool). b || slot t j) (has-set-of (λ t. some j (slot t)) t h) ∙ some-more j (slot t)))
+use Rattle.positions.proofs.MemberLaws.{subset-at}
+use Rattle.tables.specs.Slots.{slotNumber, slotOf}
+use Rattle.enabled.specs.Parts.{isMember, slotsHeld, slotsIn}
 
 -- whether slots are members of a set, one after the other
 module _ (slots : List ℕ) (i : ℕ) (s : List ℕ) where

@@ -1,5 +1,5 @@
 -- Laws of the passes over slots: what is left when a pass takes nothing out is the largest closed part. Assumes nothing.
-use Prim.Native.Nat.{ℕ, _≤_, _<_, min}
+use Prim.Native.Nat.{ℕ, _≤_, _<_}
 use mathlib.Core.Path.{_≡_, refl, sym, ap, ap₂, subst, _∙_}
 use mathlib.Core.Bool.{Bool, true, false, _&&_, cond}
 use mathlib.Core.List.{List}
@@ -11,12 +11,13 @@ use Rattle.positions.specs.Below.{every}
 use Rattle.positions.specs.Sets.{setWords, room, has, collect, common, firstPositions, isSubset, memberCount}
 use Rattle.positions.proofs.BelowLaws.{no-way, and-left, and-right, every-at, every-of}
 use Rattle.positions.proofs.SetLaws.{WordList, has-collect, collect-is}
-use Rattle.positions.proofs.MemberLaws.{common-member, subset-at, subset-of, subset-on, fewer-members}
+use Rattle.positions.proofs.MemberLaws.{common-member, subset-at, subset-of, fewer-members}
 use Rattle.positions.proofs.FillLaws.{first-member}
 use Rattle.record.specs.Record.{mostFeatures}
+use Rattle.tables.specs.Slots.{slotNumber, slotOf}
 use Rattle.enabled.specs.Graph.{Below}
 use Rattle.enabled.specs.Enabled.{enabled}
-use Rattle.enabled.specs.Slots.{slotNumber, slotOf, slotsBelow, closedAmong}
+use Rattle.enabled.specs.Slots.{slotsBelow, closedAmong}
 use Rattle.enabled.specs.declared.Left.{Left}
 use Rattle.enabled.specs.Parts.{slotsIn, ClosedSet, TakesOut, Passes}
 use Rattle.enabled.proofs.Largest.{enabled-permitted, enabled-closed, enabled-holds-all}

@@ -3,7 +3,6 @@ pub mod Enabled
 pub mod Chain
 pub mod Reach
 pub mod Shortest
-pub mod Tables
 pub mod Slots
 pub mod Parts
 pub mod Answers

@@ -1,29 +1,17 @@
 -- What the functions behind the public ones promise.
-use Prim.Native.Nat.{ℕ, _+_, _*_, _≤_, _<_}
+use Prim.Native.Nat.{ℕ, _≤_, _<_}
 use mathlib.Core.Path.{_≡_}
-use mathlib.Core.Bool.{Bool, true, false, _&&_, _||_, cond}
+use mathlib.Core.Bool.{Bool, true, false, _&&_}
 use mathlib.Core.Logic.{_⊎_}
 use mathlib.Core.List.{List}
 use lib.Dec.{eqb, ltb}
 use lib.ListN.{getD}
-use lib.Seq.{sets}
 use Rattle.positions.specs.Below.{every, some}
-use Rattle.positions.specs.Sets.{setWords, room, has, setOf, withMember, withoutMember, either, isSubset}
+use Rattle.positions.specs.Sets.{room, has, withMember, withoutMember, isSubset}
 use Rattle.record.specs.declared.Record.{Record}
-use Rattle.record.specs.Record.{mostDependencies}
-use Rattle.enabled.specs.Graph.{Below}
-use Rattle.enabled.specs.Reach.{reach}
-use Rattle.enabled.specs.Tables.{rowAt, inRow, tableOf, dependenciesIn}
-use Rattle.enabled.specs.Slots.{slotNumber, slotOf}
+use Rattle.tables.specs.Slots.{slotNumber, slotOf}
+use Rattle.enabled.specs.Graph.{Below, dependenciesIn}
 use Rattle.enabled.specs.declared.Left.{Left}
-
--- a table with the words of row i replaced
-unfoldable pub withRow : List ℕ → ℕ → List ℕ → List ℕ
-withRow table i words = sets table (setWords * i) words
-
--- the set of the first n slots of position i
-unfoldable pub slotSet : List ℕ → ℕ → ℕ → List ℕ
-slotSet slots i n = setOf (λ (t : ℕ). some n (λ (j : ℕ). eqb (getD slots (mostDependencies * i + j) 0) t))
 
 -- a position is a member of a set; none past its last word is
 unfoldable pub isMember : List ℕ → ℕ → Bool
@@ -87,26 +75,3 @@ pub record Passes (held : ℕ → List ℕ → Bool) (n : ℕ) (old : List ℕ) 
 pub record Picks (s : List ℕ) (r : ℕ) : Type 0 where
   pub member : r < room → has s r ≡ true
   pub none : room ≤ r → (i : ℕ) → i < room → has s i ≡ false
-
--- the dependencies of each of n positions, and itself
-unfoldable pub withSelf : List ℕ → ℕ → ℕ → Bool
-withSelf table i t = inRow table i t || eqb i t
-
--- a set that has k takes in the members of another
-unfoldable pub joined : List ℕ → List ℕ → ℕ → List ℕ
-joined row other k = cond (has row k) (either row other) row
-
--- what is reached, with k let through
-unfoldable pub through : ℕ → (ℕ → ℕ → Bool) → ℕ → ℕ → Bool
-through k rows i t = rows i t || (rows i k && rows k t)
-
-abbrev pub Joins : ℕ → ℕ → List ℕ → List ℕ → Type 0
-Joins n k old new = (rows : ℕ → ℕ → Bool) → old ≡ tableOf n rows → new ≡ tableOf n (through k rows)
-
--- the reach table of every graph that a table shows
-abbrev pub Reaches : List ℕ → ℕ → List ℕ → Type 0
-Reaches table n new = (num : ℕ → ℕ) (dep : ℕ → ℕ → ℕ) → Shows num dep n (rowAt table) → new ≡ tableOf n (reach num dep n)
-
--- a set with i where a row is inside another set
-unfoldable pub addedIn : List ℕ → List ℕ → List ℕ → ℕ → List ℕ
-addedIn s row permitted i = cond (isSubset row permitted) (withMember s i) s

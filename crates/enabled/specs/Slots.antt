@@ -1,20 +1,13 @@
 -- The largest closed part of a set, by slots and counts that are handed in (document 01, "Permitted and enabled").
-use Prim.Native.Nat.{ℕ, _+_, _*_, min}
+use Prim.Native.Nat.{ℕ, min}
 use mathlib.Core.Bool.{Bool, _&&_}
 use mathlib.Core.List.{List}
 use lib.Dec.{ltb}
-use lib.ListN.{getD}
 use Rattle.positions.specs.Below.{every}
 use Rattle.positions.specs.Sets.{setWords, has, collect}
-use Rattle.record.specs.Record.{mostFeatures, mostDependencies}
+use Rattle.record.specs.Record.{mostFeatures}
+use Rattle.tables.specs.Slots.{slotNumber, slotOf}
 use Rattle.enabled.specs.Enabled.{enabled}
-
--- how many dependencies position i has, sixteen at most, and its j-th
-abbrev pub slotNumber : List ℕ → ℕ → ℕ
-slotNumber counts i = min (getD counts i 0) mostDependencies
-
-abbrev pub slotOf : List ℕ → ℕ → ℕ → ℕ
-slotOf slots i j = getD slots (mostDependencies * i + j) 0
 
 -- each dependency of position i is one of the first n positions
 unfoldable pub slotsBelow : List ℕ → List ℕ → ℕ → ℕ → Bool

@@ -1,7 +1,5 @@
 // What is asked of the resolver, read from the bytes of a vector. Each `_at` function takes a place in the vector and
 // answers the place behind what it read: `NOWHERE`, if the vector has something else there.
-use enabled::Rows;
-use enabled::TABLE_WORDS;
 use permitted::Grants;
 use positions::Set;
 use record::Feature;
@@ -9,6 +7,8 @@ use record::MOST_DEPENDENCIES;
 use record::MOST_FEATURES;
 use record::Record;
 use record::SLOTS;
+use tables::Rows;
+use tables::TABLE_WORDS;
 ghost use Prim.Native.Nat.{_<_, _≤_};
 
 pub(crate) const NOWHERE: usize = usize::MAX;

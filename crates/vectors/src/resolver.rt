@@ -62,7 +62,7 @@ fn put_sets(asked: Asked) -> usize {
 // Kind `b`: level, grants and rows.
 fn put_by_table(asked: Asked, value: &[u8]) -> usize {
     let read = rows_at(value, asked.next);
-    put_enabled(enabled::enable_by_table(asked.record, read.rows, asked.level, asked.grants));
+    put_enabled(reach::enable_by_table(asked.record, read.rows, asked.level, asked.grants));
     read.next
 }
 
@@ -151,7 +151,7 @@ pub(crate) fn reach_table(value: &[u8]) -> bool {
     if read.next != value.len() {
         return false;
     }
-    let told = enabled::reach_table(read.record);
+    let told = reach::reach_table(read.record);
     let refusal = told.refusal;
     let rows = told.rows;
     put_start(b'n', refusal);

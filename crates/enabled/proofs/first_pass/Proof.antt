@@ -1,7 +1,9 @@
 -- `enabled::first_pass` meets its contract. The loop: the positions passed are seen. Assumes nothing.
 use Prim.Native.Nat.{ℕ, _-_, _≤_, _<_}
+use mathlib.Core.Path.{_∙_}
 use native.Mathlib.Omega.{arith}
 use borrow.Author.Needs.{needs}
+use Rattle.tables.proofs.SlotLaws.{used-low}
 use Rattle.enabled.specs.Parts.{slotsIn}
 use Rattle.enabled.proofs.SlotLaws.{slots-in, slots-in-none, slots-wider}
 use Rattle.enabled.proofs.PassLaws.{Looked, looked-none, look-member, looked-all}
@@ -22,10 +24,10 @@ loop-holds : tie.Need-loop-holds Inv-loop μ-loop
 loop-holds c = (omega arith, looked-none _ _ (c .empty .ensures) _)
 
 used-requires : tie.Need-used-requires Inv-loop μ-loop
-used-requires c κs = omega arith
+used-requires c κs = search needs
 
 tested-member-requires : tie.Need-tested-member-requires Inv-loop μ-loop
-tested-member-requires c κs = (omega arith, omega (arith, c .used .ensures))
+tested-member-requires c κs = let used = c .used .ensures ∙ used-low _ _ (omega arith) in (omega arith, omega arith)
 
 add-i : tie.Need-add-i Inv-loop μ-loop
 add-i c = search needs
@@ -36,10 +38,11 @@ loop-less c = omega arith
 loop-again : tie.Need-loop-again Inv-loop μ-loop
 loop-again c =
     let loop = c .before .before .before in
-    let start = c .before .before .before .before .before in (
+    let start = c .before .before .before .before .before in
+    let used = c .before .used .ensures ∙ used-low _ _ (omega arith) in (
       omega arith,
       look-member _ _ (slots-wider _ _) (start .pre) _ (omega arith) _ _ (loop .loop .inv .1) _ (λ j h l ne. omega arith)
-          (slots-in _ _ _ (c .before .used .ensures) _) (slots-in-none _ _ _ (c .before .used .ensures)) (c .tested-member .ensures),
+          (slots-in _ _ _ used _) (slots-in-none _ _ _ used) (c .tested-member .ensures),
     )
 
 returns : tie.Need-returns Inv-loop μ-loop

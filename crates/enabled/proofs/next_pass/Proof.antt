@@ -1,10 +1,11 @@
 -- `enabled::next_pass` meets its contract. The loop: what is not to do is seen. Assumes nothing.
 use Prim.Native.Nat.{ℕ, _<_}
-use mathlib.Core.Path.{_≡_}
+use mathlib.Core.Path.{_≡_, _∙_}
 use mathlib.Core.Bool.{true, false}
 use native.Mathlib.Omega.{arith}
 use borrow.Author.Needs.{needs}
 use Rattle.positions.specs.Sets.{room, has, memberCount}
+use Rattle.tables.proofs.SlotLaws.{used-low}
 use Rattle.enabled.specs.Parts.{slotsIn}
 use Rattle.enabled.proofs.SlotLaws.{slots-in, slots-wider}
 use Rattle.enabled.proofs.PassLaws.{Looked, looked-again, look-tested, looked-all, todo-within, todo-done, todo-less}
@@ -35,10 +36,10 @@ remove-requires : tie.Need-remove-requires Inv-loop μ-loop
 remove-requires c κs = search needs
 
 used-requires : tie.Need-used-requires Inv-loop μ-loop
-used-requires c κs = omega arith
+used-requires c κs = search needs
 
 tested-requires : tie.Need-tested-requires Inv-loop μ-loop
-tested-requires c κs = (omega arith, omega (arith, c .used .ensures))
+tested-requires c κs = let used = c .used .ensures ∙ used-low _ _ (omega arith) in (omega arith, omega arith)
 
 loop-less : tie.Need-loop-less Inv-loop μ-loop
 loop-less c = todo-less _ _ (c .before .before .remove .ensures) (omega arith) (c .before .before .before .before .outermost .ensures .member (omega arith))
@@ -47,9 +48,10 @@ loop-again : tie.Need-loop-again Inv-loop μ-loop
 loop-again c =
     let loop = c .before .before .before .before .before in
     let start = c .before .before .before .before .before .before .before .before .before in
-    let low = loop .loop .inv .1 _ (omega arith) (c .before .before .before .before .outermost .ensures .member (omega arith)) in (
+    let low = loop .loop .inv .1 _ (omega arith) (c .before .before .before .before .outermost .ensures .member (omega arith)) in
+    let used = c .before .used .ensures ∙ used-low _ _ (omega arith) in (
       look-tested _ _ (slots-wider _ _) (start .pre .0) _ low _ _ (loop .loop .inv .0) _
-          (λ j h z ne. todo-done _ _ (c .before .before .remove .ensures) j (omega (arith, start .pre .0)) z ne) (slots-in _ _ _ (c .before .used .ensures) _) (c .tested .ensures),
+          (λ j h z ne. todo-done _ _ (c .before .before .remove .ensures) j (omega (arith, start .pre .0)) z ne) (slots-in _ _ _ used _) (c .tested .ensures),
       λ j h m. loop .loop .inv .1 j h (todo-within _ _ (c .before .before .remove .ensures) j h m),
     )
 

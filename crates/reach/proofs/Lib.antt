@@ -1,0 +1,4 @@
+pub mod ThroughLaws
+pub mod JoinLaws
+pub mod AnswerLaws
+pub mod Answers
