@@ -121,6 +121,7 @@ fn read_places(tree: &[u8], b: Blocks, isa: u32, fs: Features) -> Read
     if refusal::number(refusal) != 0 {
         return refused(refusal, read.place);
     }
+    // Document 01: "one flat run of 1,024 dependency slots".
     let mut slots: [u16; SLOTS] = [0; SLOTS];
     let found = resolve(tree, b, fs, &phandles, &mut slots);
     let features = read.features;
