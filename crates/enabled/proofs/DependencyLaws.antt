@@ -1,7 +1,7 @@
 -- Laws of the dependencies of a record: the graph that the table of them shows, and the largest closed part. Assumes nothing.
 use Prim.Native.Nat.{ℕ, _<_, min}
-use mathlib.Core.Path.{_≡_, refl, sym, ap, _∙_}
-use mathlib.Core.Bool.{Bool, true, false, _&&_}
+use mathlib.Core.Path.{_≡_, sym, ap, _∙_}
+use mathlib.Core.Bool.{Bool, true, _&&_}
 use mathlib.Core.List.{List}
 use native.Mathlib.Omega.{arith}
 use borrow.Author.Tests.{lt-ltb}
@@ -24,11 +24,7 @@ use Rattle.enabled.specs.Enabled.{enabled}
 use Rattle.enabled.specs.Slots.{slotsBelow, closedAmong, closedPart}
 use Rattle.enabled.specs.Answers.{enabledSet}
 use Rattle.enabled.specs.Parts.{CountsOf, Shows}
-use Rattle.enabled.proofs.Sweeps.{sweeps-agree}
-
-and-true : (b : Bool) → b && true ≡ b
-and-true true = refl
-and-true false = refl
+use Rattle.enabled.proofs.Sweeps.{and-true, sweeps-agree}
 
 module _ (r : Record) (e : wellFormed r ≡ true) where
   pub graph-below : Below (r .count) (dependenciesIn r) (dependencyIn r)

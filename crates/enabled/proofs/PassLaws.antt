@@ -13,6 +13,7 @@ use Rattle.positions.specs.Sets.{room, has, setOf, noMembers, withMember, witho
 use Rattle.positions.proofs.BelowLaws.{no-way, and-left, and-false}
 use Rattle.positions.proofs.MemberLaws.{has-set-of, with-member, without-member, subset-at, subset-of, subset-same, subset-on, fewer-members}
 use Rattle.record.specs.Record.{mostFeatures}
+use Rattle.enabled.proofs.Sweeps.{and-true}
 use Rattle.enabled.specs.declared.Left.{Left}
 use Rattle.enabled.specs.Parts.{leftOf, notedOf, Tested, TestedMember, ClosedSet, TakesOut, Needy, Passes}
 
@@ -64,11 +65,8 @@ module _ (todo : List ℕ) (i : ℕ) {left : List ℕ} (e : left ≡ withoutMemb
   todo-within j h m = and-left (has todo j) (not (eqb i j)) (sym (left-is j h) ∙ m)
 
   pub todo-done : (j : ℕ) → j < room → has left j ≡ false → (j ≡ i → ⊥) → has todo j ≡ false
-  todo-done j h m ne = go (has todo j) (ap (λ (b : Bool). has todo j && not b) (sym (ne-eqb i j (λ q. ne (sym q)))) ∙ sym (left-is j h) ∙ m)
-    where
-      go : (b : Bool) → b && true ≡ false → b ≡ false
-      go true q = q
-      go false q = refl
+  todo-done j h m ne =
+      sym (and-true (has todo j)) ∙ ap (λ (b : Bool). has todo j && not b) (sym (ne-eqb i j (λ q. ne (sym q)))) ∙ sym (left-is j h) ∙ m
 
   pub todo-less : i < room → has todo i ≡ true → memberCount left < memberCount todo
   todo-less h m = fewer-members left todo (subset-of left todo todo-within) (go (isSubset todo left) refl)

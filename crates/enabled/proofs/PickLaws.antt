@@ -1,6 +1,6 @@
 -- Laws of a member that is picked from a set: the lowest, or the highest. Assumes nothing.
 use Prim.Native.Nat.{ℕ, _+_, _-_, _*_, _/_, _%_, _^_, _≤_, _<_}
-use mathlib.Core.Path.{_≡_, refl, sym, ap, _∙_}
+use mathlib.Core.Path.{_≡_, sym, ap, _∙_}
 use mathlib.Core.Bool.{Bool, true, false, not, _&&_}
 use mathlib.Core.List.{List}
 use native.Mathlib.Decide.{decLt}
@@ -17,6 +17,7 @@ use Rattle.positions.proofs.FirstLaws.{first-passes, first-before}
 use Rattle.positions.proofs.MemberLaws.{has-set-of}
 use Rattle.positions.proofs.SetLaws.{WordList, has-at}
 use Rattle.enabled.specs.Parts.{Picks}
+use Rattle.enabled.proofs.Sweeps.{and-true}
 
 -- the lowest: the first member outside the empty set
 module _ (s : List ℕ) {e : List ℕ} (empty : e ≡ setOf noMembers) {r : ℕ} (first : r ≡ firstThat room (memberOutside s e)) where
@@ -28,12 +29,10 @@ module _ (s : List ℕ) {e : List ℕ} (empty : e ≡ setOf noMembers) {r : ℕ}
       member h = rw first (and-left (has s _) (not (has e _)) (first-passes room (memberOutside s e) h))
 
       none : (i : ℕ) → i < room → room ≤ firstThat room (memberOutside s e) → has s i ≡ false
-      none i l h = go (has s i) (ap (λ (b : Bool). has s i && not b) (sym (ap (λ (x : List ℕ). has x i) empty ∙ has-set-of noMembers i l))
-          ∙ first-before room (memberOutside s e) i (omega arith))
-        where
-          go : (b : Bool) → b && true ≡ false → b ≡ false
-          go true q = q
-          go false q = refl
+      none i l h =
+          sym (and-true (has s i))
+          ∙ ap (λ (b : Bool). has s i && not b) (sym (ap (λ (x : List ℕ). has x i) empty ∙ has-set-of noMembers i l))
+          ∙ first-before room (memberOutside s e) i (omega arith)
 
 -- the words from w on have no members
 pub record NoneFrom (s : List ℕ) (w : ℕ) : Type 0 where

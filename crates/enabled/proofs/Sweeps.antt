@@ -7,6 +7,10 @@ use Rattle.positions.proofs.BelowLaws.{and-left, and-right, and-false, every-at
 use Rattle.enabled.specs.Graph.{Below}
 use Rattle.enabled.specs.Enabled.{afterSweeps, Within, Closed}
 
+pub and-true : (b : Bool) → b && true ≡ b
+and-true true = refl
+and-true false = refl
+
 module _ (num : ℕ → ℕ) (dep : ℕ → ℕ → ℕ) (permitted : ℕ → Bool) where
   abbrev left : ℕ → ℕ → Bool
   left = afterSweeps num dep permitted
