@@ -7,7 +7,8 @@ use lib.ListN.{getD}
 use Rattle.cells.specs.Rows.{each, padded}
 use Rattle.positions.specs.Below.{every, some}
 use Rattle.positions.specs.Sets.{setWords, room, has, collect, setOf, noMembers}
-use Rattle.record.specs.Record.{mostFeatures, mostDependencies}
+use Rattle.record.specs.Record.{mostFeatures}
+use Rattle.tables.specs.Slots.{slotNumber, slotOf}
 
 -- the words of row i
 unfoldable pub rowAt : List ℕ → ℕ → List ℕ
@@ -37,7 +38,7 @@ tableOf n row = padded tableWords 0 (rowsBelow n row)
 unfoldable pub dependencyTable : List ℕ → List ℕ → ℕ → List ℕ
 dependencyTable slots counts n =
     tableOf (min n mostFeatures)
-    (λ (i t : ℕ). some (min (getD counts i 0) mostDependencies) (λ (j : ℕ). eqb (getD slots (mostDependencies * i + j) 0) t))
+    (λ (i t : ℕ). some (slotNumber counts i) (λ (j : ℕ). eqb (slotOf slots i j) t))
 
 -- those of the first n positions whose rows hold only members of a set
 unfoldable pub rowsInside : List ℕ → ℕ → List ℕ → List ℕ
