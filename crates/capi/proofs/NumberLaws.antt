@@ -5,7 +5,7 @@ use mathlib.Core.Bool.{true, false}
 use Rattle.refusal.specs.Refusal.{Outcome, Placed}
 use Rattle.refusal.specs.Checks.{faultOf, firstFault}
 use Rattle.record.specs.declared.Record.{Record}
-use Rattle.record.specs.WellFormed.{wellFormed}
+use Rattle.form.specs.WellFormed.{wellFormed}
 use Rattle.capi.specs.Answers.{formNumber}
 
 pub by-number : {A : Type 0} {v : A} {o : Outcome A} {n m : ℕ} → n ≡ m → record { number = m; value = v } ≡ o → record { number = n; value = v } ≡ o

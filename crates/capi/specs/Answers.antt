@@ -4,7 +4,7 @@ use mathlib.Core.List.{List, [], _∷_}
 use Rattle.refusal.specs.Refusal.{Outcome, Placed}
 use Rattle.refusal.specs.Checks.{check, faultOf}
 use Rattle.record.specs.declared.Record.{Record}
-use Rattle.record.specs.WellFormed.{wellFormed}
+use Rattle.form.specs.WellFormed.{wellFormed}
 use Rattle.enabled.specs.Answers.{Members}
 use Rattle.words.specs.Words.{WordValues}
 use Rattle.capi.specs.declared.YebkuzanWritten.{YebkuzanWritten}

@@ -71,7 +71,7 @@ fn numbered(e: Enabled) -> YebkuzanEnabled
 pub extern "C" fn yebkuzan_well_formed(r: Record) -> u32
     ensures { λ n. ⌜ n ≡ formNumber r ⌝ }
 {
-    if record::well_formed(r) { 0 } else { 14 }
+    if form::well_formed(r) { 0 } else { 14 }
 }
 
 // The permitted features of a record at a level under grants: 14, 15.

@@ -14,8 +14,8 @@ use Rattle.positions.specs.Sets.{setWords, room, has}
 use Rattle.positions.proofs.BelowLaws.{and-left, every-same}
 use Rattle.positions.proofs.SetLaws.{has-collect, collect-same}
 use Rattle.record.specs.declared.Record.{Record}
-use Rattle.record.specs.WellFormed.{wellFormed}
-use Rattle.record.proofs.Formed.{formed}
+use Rattle.form.specs.WellFormed.{wellFormed}
+use Rattle.form.proofs.Formed.{formed}
 use Rattle.reading.specs.Reading.{readRecord}
 use Rattle.reading.proofs.Formed.{read-formed}
 use Rattle.permitted.specs.declared.Grants.{Grants}

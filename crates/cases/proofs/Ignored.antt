@@ -11,7 +11,7 @@ use Rattle.refusal.specs.Checks.{Check, check, firstFault}
 use Rattle.cells.specs.Buffer.{written}
 use Rattle.positions.specs.Sets.{setWords, room, has, collect, setOf, noMembers}
 use Rattle.record.specs.declared.Record.{Record}
-use Rattle.record.specs.WellFormed.{wellFormed}
+use Rattle.form.specs.WellFormed.{wellFormed}
 use Rattle.permitted.specs.declared.Grants.{Grants}
 use Rattle.permitted.specs.Permitted.{hypervisor, permittedSet}
 use Rattle.permitted.specs.Asked.{askedChecks, permitted}

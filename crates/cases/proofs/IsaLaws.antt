@@ -18,8 +18,8 @@ use Rattle.record.specs.declared.Property.{Property}
 use Rattle.record.specs.declared.Property.the-variants.{HvSupport, OsSupport, HfscrBitNr, FscrBitNr, HwcapBitNr}
 use Rattle.record.specs.Record.{mostFeatures, mostDependencies, featureAt}
 use Rattle.record.specs.Cells.{cell, held, bitOf, lowBit, dependencyCount}
-use Rattle.record.specs.WellFormed.{bitsFit, dependenciesFit, featureFits, wellFormed}
-use Rattle.record.proofs.Formed.{formed}
+use Rattle.form.specs.WellFormed.{bitsFit, dependenciesFit, featureFits, wellFormed}
+use Rattle.form.proofs.Formed.{formed}
 use Rattle.permitted.specs.declared.Grants.{Grants}
 use Rattle.permitted.specs.Permitted.{withIsa, system, hypervisor}
 use Rattle.tables.specs.Tables.{tableOf}

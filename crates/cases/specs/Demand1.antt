@@ -22,7 +22,7 @@ use Rattle.lookup.specs.Lookup.{lookup, reason, partOf}
 use Rattle.positions.specs.Sets.{setWords}
 use Rattle.record.specs.declared.Record.{Record}
 use Rattle.record.specs.Record.{mostFeatures, noFeatures}
-use Rattle.record.specs.WellFormed.{wellFormed}
+use Rattle.form.specs.WellFormed.{wellFormed}
 use Rattle.reading.specs.Features.{carries}
 use Rattle.reading.specs.Reading.{nodeAt, readRecord}
 use Rattle.reading.specs.Accepted.{featuresOf, dependenciesOf}

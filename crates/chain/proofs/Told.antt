@@ -12,7 +12,7 @@ use Rattle.refusal.proofs.Checks.{Passes, passes}
 use Rattle.cells.specs.Buffer.{written}
 use Rattle.positions.specs.Sets.{room, has}
 use Rattle.record.specs.declared.Record.{Record}
-use Rattle.record.specs.WellFormed.{wellFormed}
+use Rattle.form.specs.WellFormed.{wellFormed}
 use Rattle.permitted.specs.declared.Grants.{Grants}
 use Rattle.permitted.specs.Permitted.{hypervisor, permittedSet}
 use Rattle.permitted.specs.Asked.{askedChecks}

@@ -34,7 +34,7 @@ fn layer(table: &[u64; TABLE_WORDS], n: usize, s: Set) -> Set
     requires { ⌜ n ≤ mostFeatures ⌝ }
     ensures { λ r. ⌜ r .words ≡ swept (now (table .entry)) n (s .words) ⌝ }
 {
-    positions::intersection(s, tables::inside_rows(table, n, s))
+    sets::intersection(s, tables::inside_rows(table, n, s))
 }
 
 // The layers of a set that hold position `i`. At most `n` rounds: each is one sweep, and compares two sets, a step a word.
@@ -54,7 +54,7 @@ fn fall(table: &[u64; TABLE_WORDS], n: usize, p: Set, i: usize) -> Layers
             };
         }
         let t = layer(table, n, s);
-        if positions::subset(s, t) {
+        if sets::subset(s, t) {
             return Layers {
                 enabled: true,
                 held: k,
@@ -90,7 +90,7 @@ fn write_chain(table: &[u64; TABLE_WORDS], l: Layers, i: usize, out: &mut [u8])
         place += 1;
         k -= 1;
         let s = l.sets[k];
-        at = positions::lowest_outside(tables::row(table, at), s);
+        at = sets::lowest_outside(tables::row(table, at), s);
     }
     out[place] = at as u8;
 }

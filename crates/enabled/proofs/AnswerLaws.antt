@@ -14,8 +14,8 @@ use Rattle.positions.proofs.MemberLaws.{subset-at}
 use Rattle.positions.proofs.FillLaws.{first-member}
 use Rattle.record.specs.declared.Record.{Record}
 use Rattle.record.specs.Record.{mostFeatures}
-use Rattle.record.specs.WellFormed.{wellFormed}
-use Rattle.record.proofs.Formed.{formed}
+use Rattle.form.specs.WellFormed.{wellFormed}
+use Rattle.form.proofs.Formed.{formed}
 use Rattle.enabled.specs.Graph.{dependenciesIn, dependencyIn}
 use Rattle.permitted.specs.declared.Grants.{Grants}
 use Rattle.permitted.specs.Permitted.{permittedAt, permittedSet}

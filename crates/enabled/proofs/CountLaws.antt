@@ -9,8 +9,8 @@ use Rattle.cells.specs.Rows.{each}
 use Rattle.cells.proofs.Rows.{length-each}
 use Rattle.record.specs.declared.Record.{Record}
 use Rattle.record.specs.Record.{mostFeatures}
-use Rattle.record.specs.WellFormed.{wellFormed}
-use Rattle.record.proofs.Formed.{formed}
+use Rattle.form.specs.WellFormed.{wellFormed}
+use Rattle.form.proofs.Formed.{formed}
 use Rattle.permitted.specs.Asked.{dependencyCounts}
 use Rattle.tables.proofs.RowLaws.{each-at}
 use Rattle.enabled.specs.Graph.{dependenciesIn}

@@ -13,8 +13,8 @@ use Rattle.positions.proofs.BelowLaws.{every-of}
 use Rattle.positions.proofs.SetLaws.{collect-same}
 use Rattle.record.specs.declared.Record.{Record}
 use Rattle.record.specs.Record.{mostFeatures, mostDependencies}
-use Rattle.record.specs.WellFormed.{wellFormed}
-use Rattle.record.proofs.Formed.{formed}
+use Rattle.form.specs.WellFormed.{wellFormed}
+use Rattle.form.proofs.Formed.{formed}
 use Rattle.tables.specs.Tables.{rowAt, dependencyTable}
 use Rattle.tables.specs.Slots.{slotNumber, slotOf}
 use Rattle.tables.proofs.DependencyLaws.{inSlots}

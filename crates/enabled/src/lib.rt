@@ -123,7 +123,7 @@ fn outermost(s: Set, lowest: bool) -> usize
     ensures { λ r. ⌜ Picks (s .words) r ⌝ }
 {
     if lowest {
-        return positions::lowest_outside(s, positions::empty());
+        return sets::lowest_outside(s, positions::empty());
     }
     highest(s)
 }
@@ -163,10 +163,10 @@ pub fn closed_part(slots: &[u16; SLOTS], counts: &[u8; MOST_FEATURES], n: usize,
     ensures { λ r. ⌜ r .words ≡ closedPart (now (slots .entry)) (now (counts .entry)) n (p .words) ⌝ }
 {
     let m = cells::least(n, MOST_FEATURES);
-    let mut old = positions::intersection(p, positions::below(m));
+    let mut old = sets::intersection(p, positions::below(m));
     let mut x = first_pass(slots, counts, m, old);
     let mut upward = false;
-    while !positions::subset(old, x.members) {
+    while !sets::subset(old, x.members) {
         old = x.members;
         x = next_pass(slots, counts, m, x, upward);
         upward = !upward;
@@ -209,7 +209,7 @@ pub fn enable(r: Record, level: u32, g: Grants) -> Enabled
         return nobody(refusal);
     }
     let set = x.set;
-    if positions::subset(positions::below(n), set) {
+    if sets::subset(positions::below(n), set) {
         return counted(set);
     }
     counted(closed_part(&slots, &x.counts, n, set))

@@ -14,7 +14,7 @@ use Rattle.refusal.proofs.Checks.{stops}
 use Rattle.positions.specs.Sets.{has, memberCount}
 use Rattle.record.specs.declared.Record.{Record}
 use Rattle.record.specs.Record.{mostFeatures}
-use Rattle.record.specs.WellFormed.{wellFormed}
+use Rattle.form.specs.WellFormed.{wellFormed}
 use Rattle.permitted.specs.declared.Grants.{Grants}
 use Rattle.permitted.specs.Permitted.{hypervisor, permittedSet}
 use Rattle.permitted.specs.Asked.{askedChecks}

@@ -14,9 +14,9 @@ use Rattle.positions.specs.Below.{every}
 use Rattle.positions.specs.Sets.{setWords, collect, withMember, setOf, noMembers}
 use Rattle.record.specs.Record.{mostFeatures, featureAt}
 use Rattle.record.specs.Cells.{dependencyCount}
-use Rattle.record.specs.Slots.{fitsAt}
-use Rattle.record.specs.WellFormed.{featureFits, wellFormed}
-use Rattle.record.proofs.FormedLaws.{formed-many, formed-not, formed-next, formed-all}
+use Rattle.form.specs.Slots.{fitsAt}
+use Rattle.form.specs.WellFormed.{featureFits, wellFormed}
+use Rattle.form.proofs.FormedLaws.{formed-many, formed-not, formed-next, formed-all}
 use Rattle.record.specs.declared.Record.{Record}
 use Rattle.refusal.specs.Refusal.{Outcome, answer, refuse}
 use Rattle.refusal.specs.Checks.{firstFault, faultOf}

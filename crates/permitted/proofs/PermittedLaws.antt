@@ -15,7 +15,7 @@ use Rattle.positions.proofs.MemberLaws.{insert-collect}
 use Rattle.positions.proofs.SetCodeLaws.{zero-words}
 use Rattle.record.specs.Cells.{bitOf, held, whenGiven, cell, lowBit}
 use Rattle.record.specs.Record.{mostFeatures, highestBit}
-use Rattle.record.specs.WellFormed.{bitFits, bitsFit}
+use Rattle.form.specs.WellFormed.{bitFits, bitsFit}
 use Rattle.record.specs.declared.Record.{Record}
 use Rattle.record.specs.declared.Feature.{Feature}
 use Rattle.record.specs.declared.Property.the-variants.{UsablePrivilege, HvSupport, OsSupport, HfscrBitNr, FscrBitNr, HwcapBitNr}

@@ -10,7 +10,7 @@ use Rattle.positions.specs.Sets.{setOf, noMembers}
 use Rattle.record.specs.declared.Record.{Record}
 use Rattle.record.specs.Record.{mostFeatures, featureAt}
 use Rattle.record.specs.Cells.{dependencyCount}
-use Rattle.record.specs.WellFormed.{wellFormed}
+use Rattle.form.specs.WellFormed.{wellFormed}
 use Rattle.permitted.specs.declared.Grants.{Grants}
 use Rattle.permitted.specs.declared.PermittedFeatures.{PermittedFeatures}
 use Rattle.permitted.specs.declared.Examined.{Examined}

@@ -13,7 +13,7 @@ ghost use Rattle.refusal.specs.Refusal.{numberOf, refuse};
 ghost use Rattle.positions.specs.Bits.{bit};
 ghost use Rattle.positions.specs.Sets.{room, has, withMember};
 ghost use Rattle.record.specs.Cells.{lowBit};
-ghost use Rattle.record.specs.WellFormed.{bitsFit};
+ghost use Rattle.form.specs.WellFormed.{bitsFit};
 ghost use Rattle.record.specs.declared.Cell.the-variants.{Given};
 ghost use Rattle.permitted.specs.Permitted.{hypervisor, isUsable, isSupported, isSupportedBelow, isPermitted};
 ghost use Rattle.permitted.specs.Asked.{nothingSeen, examined, examinedOutcome, permitted as permittedOf, permittedOutcome};
@@ -182,7 +182,7 @@ pub fn examine(r: Record, level: u32, g: Grants) -> Examined
     let mut i: usize = 0;
     while i < n {
         let f = r.features[i];
-        if !record::feature_fits(f, &r.slots, count, i) {
+        if !form::feature_fits(f, &r.slots, count, i) {
             return refused(Refusal::RecordForm);
         }
         counts[i] = record::dependency_count(f) as u8;

@@ -5,4 +5,3 @@ pub mod MemberLaws
 pub mod SetCodeLaws
 pub mod FillLaws
 pub mod FirstLaws
-pub mod LowestLaws

@@ -1,7 +1,6 @@
 // Positions below a bound, the bits of words, and sets of positions.
 ghost use mathlib.Core.Path.{_≡_};
 ghost use Rattle.positions.specs.Bits.{bit};
-ghost use Rattle.positions.specs.Below.{firstThat};
 ghost use Prim.Native.Nat.{_<_};
 ghost use Rattle.positions.specs.Sets.{
   setWords,
@@ -10,14 +9,9 @@ ghost use Rattle.positions.specs.Sets.{
   noMembers,
   withMember,
   withoutMember,
-  common,
-  either,
   wordBelow,
   firstPositions,
-  isSubset,
   memberCount,
-  room,
-  memberOutside,
 };
 
 const WORD_BITS: u32 = 64;
@@ -85,46 +79,6 @@ pub fn remove(s: Set, i: usize) -> Set
     t
 }
 
-// Whether every member of a set is one of another: one test a word.
-pub fn subset(a: Set, b: Set) -> bool
-    ensures { λ r. ⌜ r ≡ isSubset (a .words) (b .words) ⌝ }
-{
-    let mut w: usize = 0;
-    while w < WORDS {
-        if a.words[w] & b.words[w] != a.words[w] {
-            return false;
-        }
-        w += 1;
-    }
-    true
-}
-
-// The members of both of two sets: one step a word.
-pub fn intersection(a: Set, b: Set) -> Set
-    ensures { λ r. ⌜ r .words ≡ common (a .words) (b .words) ⌝ }
-{
-    let mut t = a;
-    let mut w: usize = 0;
-    while w < WORDS {
-        t.words[w] = a.words[w] & b.words[w];
-        w += 1;
-    }
-    t
-}
-
-// The members of either of two sets: one step a word.
-pub fn union(a: Set, b: Set) -> Set
-    ensures { λ r. ⌜ r .words ≡ either (a .words) (b .words) ⌝ }
-{
-    let mut t = a;
-    let mut w: usize = 0;
-    while w < WORDS {
-        t.words[w] = a.words[w] | b.words[w];
-        w += 1;
-    }
-    t
-}
-
 // Word `w` of the set of the positions below `n`: all ones, none, or those of the lowest bits.
 fn word_below(n: usize, w: usize) -> u64
     requires { ⌜ w < setWords ⌝ }
@@ -164,19 +118,4 @@ pub fn members(s: Set) -> u32
         w += 1;
     }
     n
-}
-
-// The smallest position that is a member of the first set and not of the second; 64 for each word where there is none: one step a word.
-pub fn lowest_outside(a: Set, b: Set) -> usize
-    ensures { λ r. ⌜ r ≡ firstThat room (memberOutside (a .words) (b .words)) ⌝ }
-{
-    let mut w: usize = 0;
-    while w < WORDS {
-        let outside = a.words[w] & !b.words[w];
-        if outside != 0 {
-            return 64 * w + u64::trailing_zeros(outside) as usize;
-        }
-        w += 1;
-    }
-    64 * WORDS
 }

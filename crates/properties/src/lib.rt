@@ -39,7 +39,7 @@ pub fn is_named(strings: &[u8], b: StringsBlock, offset: usize, name: &[u8]) -> 
         ⌜ r ≡ sameText (nameAt (now (strings .entry)) (b .from) (b .limit) offset) (ended (now (name .entry))) ⌝ }
 {
     let limit = b.limit;
-    names::has_name(strings, name_place(b, offset), limit, name)
+    matching::has_name(strings, name_place(b, offset), limit, name)
 }
 
 // Whether a property from `first` on and before `t`, in a block of tokens that ends at `end`, has the name at `place`.
@@ -72,7 +72,7 @@ fn given(
                 name,
                 next,
             } => {
-                if names::same_name(strings, name_place(b, name), place, limit) {
+                if matching::same_name(strings, name_place(b, name), place, limit) {
                     return true;
                 }
                 at = next.at;

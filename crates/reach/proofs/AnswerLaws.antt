@@ -9,7 +9,7 @@ use Rattle.refusal.specs.Refusal.{Outcome, answer, refuse}
 use Rattle.refusal.proofs.Checks.{passes, stops}
 use Rattle.record.specs.declared.Record.{Record}
 use Rattle.record.specs.Record.{mostFeatures}
-use Rattle.record.specs.WellFormed.{wellFormed}
+use Rattle.form.specs.WellFormed.{wellFormed}
 use Rattle.permitted.specs.declared.Grants.{Grants}
 use Rattle.permitted.specs.Permitted.{permittedSet}
 use Rattle.permitted.specs.Asked.{Seen, examined}

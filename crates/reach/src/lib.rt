@@ -41,7 +41,7 @@ fn joined(x: Set, y: Set, k: usize) -> Set
     ensures { λ r. ⌜ r .words ≡ joinedOf (x .words) (y .words) k ⌝ }
 {
     if positions::member(x, k) {
-        return positions::union(x, y);
+        return sets::union(x, y);
     }
     x
 }

@@ -203,7 +203,7 @@ pub(crate) fn repeated_name(tree: &[u8], b: Blocks, fs: Features) -> usize
         let mut j: usize = 0;
         while j < i {
             let q = fs.nodes[j];
-            if names::same_name(tree, q.name, p.name, end) {
+            if matching::same_name(tree, q.name, p.name, end) {
                 found = i;
                 break 'search;
             }

@@ -12,7 +12,7 @@ use Rattle.record.specs.declared.Record.{Record}
 use Rattle.record.specs.declared.Property.the-variants.{UsablePrivilege, HvSupport, OsSupport, HfscrBitNr, FscrBitNr, HwcapBitNr}
 use Rattle.record.specs.Record.{mostFeatures, mostDependencies, highestBit, featureAt, slotAt}
 use Rattle.record.specs.Cells.{lowBit, dependencyCount}
-use Rattle.record.specs.WellFormed.{bitFits, bitsFit, dependenciesFit, featureFits, wellFormed}
+use Rattle.form.specs.WellFormed.{bitFits, bitsFit, dependenciesFit, featureFits, wellFormed}
 use Rattle.reading.specs.Nodes.{Node, children}
 use Rattle.reading.specs.Values.{Value, missing, value, valueOf, number}
 use Rattle.reading.specs.Reading.{nodeAt, readRecord}

@@ -1,41 +1,11 @@
--- Laws of a feature's cells, as the code reads them. Assumes nothing.
-use mathlib.Core.Path.{_≡_, sym, ap, ap₂, _∙_}
-use mathlib.Core.Bool.{Bool, true, false}
+-- A feature's cells, as the code reads them. Assumes nothing.
+use mathlib.Core.Path.{_≡_, sym, ap, _∙_}
 use Rattle.positions.specs.Bits.{bit}
-use Rattle.record.specs.Cells.{bitOf, held, whenGiven, cell, lowBit}
-use Rattle.record.specs.WellFormed.{bitFits, bitsFit}
+use Rattle.record.specs.Cells.{bitOf, held, whenGiven, cell}
 use Rattle.record.specs.declared.Feature.{Feature}
 use Rattle.record.specs.declared.Property.{Property}
-use Rattle.record.specs.declared.Property.the-variants.{UsablePrivilege, HvSupport, OsSupport, HfscrBitNr, FscrBitNr, HwcapBitNr}
 use Rattle.record.specs.declared.Cell.{Cell}
 
 pub cell-is : (f : Feature) {p q : Property} {x : Cell} → x ≡ whenGiven (bit (f .given) (bitOf q)) (held f q) → p ≡ q → x ≡ cell f p
 unfolding cell
 cell-is f e h = e ∙ ap (cell f) (sym h)
-
--- the bit number in y, required by bit 0 of the cell x, by way of the code's locals
-pub fits-by : {fits : Bool} {a b x y : Cell} → fits ≡ bitFits (lowBit b) a → b ≡ x → a ≡ y → fits ≡ bitFits (lowBit x) y
-fits-by e p q = e ∙ ap₂ bitFits (ap lowBit p) q
-
-module _ (f : Feature) where
-  -- the three tests of `bitsFit`
-  abbrev pub hypervisorFits : Bool
-  hypervisorFits = bitFits (lowBit (cell f HvSupport)) (cell f HfscrBitNr)
-
-  abbrev pub systemFits : Bool
-  systemFits = bitFits (lowBit (cell f OsSupport)) (cell f FscrBitNr)
-
-  abbrev pub userFits : Bool
-  userFits = bitFits (lowBit (cell f UsablePrivilege)) (cell f HwcapBitNr)
-
-  pub bits-first : hypervisorFits ≡ false → false ≡ bitsFit f
-  unfolding bitsFit
-  bits-first h = rw h
-
-  pub bits-second : hypervisorFits ≡ true → systemFits ≡ false → false ≡ bitsFit f
-  unfolding bitsFit
-  bits-second h s = rw (h, s)
-
-  pub bits-third : hypervisorFits ≡ true → systemFits ≡ true → userFits ≡ bitsFit f
-  unfolding bitsFit
-  bits-third h s = rw (h, s)

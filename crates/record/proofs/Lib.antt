@@ -1,3 +1,1 @@
 pub mod CellLaws
-pub mod FormedLaws
-pub mod Formed

@@ -105,7 +105,7 @@ pub fn dependency_rows(slots: &[u16; SLOTS], counts: &[u8; MOST_FEATURES], n: us
 fn added(s: Set, x: Set, p: Set, i: usize) -> Set
     ensures { λ r. ⌜ r .words ≡ addedIn (s .words) (x .words) (p .words) i ⌝ }
 {
-    if positions::subset(x, p) {
+    if sets::subset(x, p) {
         return positions::insert(s, i);
     }
     s

@@ -19,7 +19,7 @@ use refusal::Refusal;
 ghost use Prim.Native.Nat.{_≤_};
 
 fn form_of(record: Record) -> Refusal {
-    if record::well_formed(record) {
+    if form::well_formed(record) {
         return Refusal::None;
     }
     Refusal::RecordForm

@@ -5,7 +5,7 @@ use Prim.Native.Nat.{ℕ, _≤_}
 use Rattle.refusal.specs.Refusal.{Outcome, answer, refuse}
 use Rattle.record.specs.declared.Record.{Record}
 use Rattle.record.specs.Record.{mostFeatures}
-use Rattle.record.proofs.Formed.{formed}
+use Rattle.form.proofs.Formed.{formed}
 use Rattle.permitted.specs.declared.Grants.{Grants}
 use Rattle.permitted.specs.Permitted.{permittedSet}
 use Rattle.permitted.specs.Asked.{Seen, examined}

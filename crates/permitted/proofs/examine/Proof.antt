@@ -4,7 +4,7 @@ use mathlib.Core.Path.{refl}
 use native.Mathlib.Omega.{arith}
 use borrow.Author.Needs.{needs}
 use borrow.Author.Tests.{not-true, not-false}
-use Rattle.record.proofs.FormedLaws.{fits-bits, fits-few}
+use Rattle.form.proofs.FormedLaws.{fits-bits, fits-few}
 use Rattle.permitted.proofs.AskedLaws.{SeenTo, many-seen, seen-none, seen-not, seen-next, seen-level, seen-all}
 use Rattle.permitted.proofs.examine.Statement.{statement}
 use Rattle.permitted.proofs.examine.Tie as tie

@@ -1,0 +1,3 @@
+mod BitLaws
+pub mod FormedLaws
+pub mod Formed

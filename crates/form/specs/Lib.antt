@@ -1,0 +1,3 @@
+pub mod WellFormed
+pub mod Slots
+pub mod Formed
