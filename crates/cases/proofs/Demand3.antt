@@ -23,12 +23,12 @@ use Rattle.permitted.specs.Permitted.{permittedSet}
 use Rattle.permitted.specs.Asked.{askedChecks}
 use Rattle.tables.specs.Tables.{inRow, tableOf}
 use Rattle.tables.proofs.TableLaws.{in-table}
-use Rattle.enabled.specs.Graph.{Below, dependenciesIn, dependencyIn}
-use Rattle.enabled.specs.Enabled.{enabled}
-use Rattle.enabled.specs.Chain.{Chain, Smallest}
-use Rattle.enabled.specs.Reach.{Needs, reach, enabledByReach}
+use Rattle.closure.specs.Graph.{Below, dependenciesIn, dependencyIn}
+use Rattle.closure.specs.Enabled.{enabled}
+use Rattle.closure.specs.Chain.{Chain, Smallest}
+use Rattle.closure.specs.Reach.{Needs, reach, enabledByReach}
 use Rattle.enabled.specs.Answers.{membersOf, nobody, enabledSet, enable}
-use Rattle.enabled.proofs.Demand3 as sets
+use Rattle.closure.proofs.Demand3 as sets
 use Rattle.reach.specs.Answers.{reachTable, enabledByTable, enableByTable}
 use Rattle.chain.specs.Chain.{chainIn}
 use Rattle.chain.proofs.Told.{told-smallest, told-fits}

@@ -6,12 +6,12 @@ use mathlib.Core.List.{List, _∷_}
 use native.Mathlib.Omega.{arith}
 use lib.Dec.{eqb}
 use Rattle.positions.specs.Below.{some}
-use Rattle.enabled.specs.Graph.{Below}
-use Rattle.enabled.specs.Enabled.{afterSweeps}
-use Rattle.enabled.specs.Reach.{reach}
-use Rattle.enabled.specs.Shortest.{smallerIf, smallestOf, next, chainWithin}
-use Rattle.enabled.proofs.Sweeps.{sweeps-agree}
-use Rattle.enabled.proofs.Shortest.{next-is}
+use Rattle.closure.specs.Graph.{Below}
+use Rattle.closure.specs.Enabled.{afterSweeps}
+use Rattle.closure.specs.Reach.{reach}
+use Rattle.closure.specs.Shortest.{smallerIf, smallestOf, next, chainWithin}
+use Rattle.closure.proofs.Sweeps.{sweeps-agree}
+use Rattle.closure.proofs.Shortest.{next-is}
 
 -- tests that agree below a bound
 pub some-same : (n : ℕ) (p q : ℕ → Bool) → ((i : ℕ) → i < n → p i ≡ q i) → some n p ≡ some n q

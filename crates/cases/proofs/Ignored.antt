@@ -17,7 +17,7 @@ use Rattle.permitted.specs.Permitted.{hypervisor, permittedSet}
 use Rattle.permitted.specs.Asked.{askedChecks, permitted}
 use Rattle.permitted.proofs.GrantLaws.{only-below, isa-ignored}
 use Rattle.tables.specs.Tables.{inRow, tableWords}
-use Rattle.enabled.specs.Reach.{enabledByReach}
+use Rattle.closure.specs.Reach.{enabledByReach}
 use Rattle.enabled.specs.Answers.{membersOf, nobody, enabledSet, enable}
 use Rattle.reach.specs.Answers.{reachOf, enabledByTable, enableByTable}
 use Rattle.chain.specs.Chain.{isEnabled, chainIn, chainChecks, chain, afterChain}

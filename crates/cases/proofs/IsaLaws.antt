@@ -24,10 +24,10 @@ use Rattle.permitted.specs.declared.Grants.{Grants}
 use Rattle.permitted.specs.Permitted.{withIsa, system, hypervisor}
 use Rattle.tables.specs.Tables.{tableOf}
 use Rattle.tables.proofs.TableLaws.{table-same}
-use Rattle.enabled.specs.Graph.{Below, dependenciesIn, dependencyIn}
-use Rattle.enabled.specs.Enabled.{enabled}
-use Rattle.enabled.specs.Reach.{reach}
-use Rattle.enabled.specs.Shortest.{shortestChain}
+use Rattle.closure.specs.Graph.{Below, dependenciesIn, dependencyIn}
+use Rattle.closure.specs.Enabled.{enabled}
+use Rattle.closure.specs.Reach.{reach}
+use Rattle.closure.specs.Shortest.{shortestChain}
 use Rattle.enabled.specs.Answers.{enabledSet}
 use Rattle.reach.specs.Answers.{reachTable}
 use Rattle.chain.specs.Chain.{isEnabled, chainIn}

@@ -8,8 +8,8 @@ use Rattle.unit.specs.Hex.{allHex, hexAfter, hexChecks, readHex, digitsOf, hexT
 use Rattle.unit.specs.Unit.{readUnit, writeUnit, afterUnit}
 use Rattle.sizes.specs.Sizes.{ascends, cellChecks, sizeChecks, noSizes, sizeTable, sizes}
 use Rattle.positions.specs.Below.{every}
-use Rattle.enabled.specs.Enabled.{afterSweeps}
-use Rattle.enabled.specs.Shortest.{smallestOf, chainWithin}
+use Rattle.closure.specs.Enabled.{afterSweeps}
+use Rattle.closure.specs.Shortest.{smallestOf, chainWithin}
 use Rattle.cases.specs.Cases.{AllHold, cases}
 
 pub all-hold : AllHold cases

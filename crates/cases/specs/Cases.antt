@@ -12,8 +12,8 @@ use Rattle.sizes.specs.Sizes.{sizes, noSizes}
 use Rattle.sizes.specs.declared.SizeTable.{SizeTable}
 use Rattle.cells.specs.Rows.{each}
 use Rattle.positions.specs.Sets.{room}
-use Rattle.enabled.specs.Enabled.{enabled}
-use Rattle.enabled.specs.Shortest.{shortestChain}
+use Rattle.closure.specs.Enabled.{enabled}
+use Rattle.closure.specs.Shortest.{shortestChain}
 
 -- the value of a property that is a run of cells
 abbrev pub valueOf : List ℕ → List ℕ

@@ -10,9 +10,9 @@ use Rattle.record.specs.declared.Record.{Record}
 use Rattle.permitted.specs.declared.Grants.{Grants}
 use Rattle.permitted.specs.Permitted.{permittedSet}
 use Rattle.tables.specs.Tables.{inRow}
-use Rattle.enabled.specs.Chain.{Chain, Smallest}
-use Rattle.enabled.specs.Reach.{Needs}
-use Rattle.enabled.specs.Graph.{dependenciesIn, dependencyIn}
+use Rattle.closure.specs.Chain.{Chain, Smallest}
+use Rattle.closure.specs.Reach.{Needs}
+use Rattle.closure.specs.Graph.{dependenciesIn, dependencyIn}
 use Rattle.enabled.specs.Answers.{enabledSet, enable}
 use Rattle.reach.specs.Answers.{reachTable, enabledByTable, enableByTable}
 use Rattle.chain.specs.Chain.{chainIn}

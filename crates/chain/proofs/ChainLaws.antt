@@ -14,7 +14,7 @@ use Rattle.permitted.specs.Permitted.{permittedSet}
 use Rattle.permitted.specs.Asked.{askedChecks, Seen, examined}
 use Rattle.permitted.proofs.AskedLaws.{numbered}
 use Rattle.tables.specs.Tables.{rowAt, dependencyTable}
-use Rattle.enabled.specs.Graph.{dependenciesIn, dependencyIn}
+use Rattle.closure.specs.Graph.{dependenciesIn, dependencyIn}
 use Rattle.enabled.specs.Parts.{Shows}
 use Rattle.enabled.proofs.DependencyLaws.{shows-table}
 use Rattle.enabled.proofs.AnswerLaws.{number-seen, form-seen, counts-seen, permitted-seen, all-seen}

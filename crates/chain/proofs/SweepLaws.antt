@@ -11,9 +11,9 @@ use Rattle.positions.specs.Sets.{room, has, isSubset}
 use Rattle.positions.proofs.BelowLaws.{and-left, and-right, no-way, some-at, some-is}
 use Rattle.positions.proofs.MemberLaws.{subset-at, subset-of}
 use Rattle.tables.specs.Tables.{rowAt}
-use Rattle.enabled.specs.Enabled.{afterSweeps}
+use Rattle.closure.specs.Enabled.{afterSweeps}
 use Rattle.enabled.specs.Parts.{Shows}
-use Rattle.enabled.proofs.Sweeps.{sweeps-permitted, sweeps-dependencies, sweeps-of, sweeps-fewer}
+use Rattle.closure.proofs.Sweeps.{sweeps-permitted, sweeps-dependencies, sweeps-of, sweeps-fewer}
 use Rattle.chain.specs.Layers.{isLeft, swept, layerAt}
 use Rattle.chain.proofs.LayerLaws.{has-swept}
 

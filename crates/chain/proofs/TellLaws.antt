@@ -13,8 +13,8 @@ use Rattle.cells.specs.Buffer.{written}
 use Rattle.positions.specs.Sets.{room, has}
 use Rattle.record.specs.Record.{mostFeatures}
 use Rattle.tables.specs.Tables.{rowAt}
-use Rattle.enabled.specs.Enabled.{afterSweeps, enabled}
-use Rattle.enabled.specs.Shortest.{shortestChain}
+use Rattle.closure.specs.Enabled.{afterSweeps, enabled}
+use Rattle.closure.specs.Shortest.{shortestChain}
 use Rattle.enabled.specs.Parts.{Shows}
 use Rattle.chain.specs.Chain.{chainOutcome}
 use Rattle.chain.specs.Layers.{layerAt, setAt, Falls, wayDown, AllBelow, graphChecks, ShowsSome, Tells}

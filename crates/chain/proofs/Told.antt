@@ -16,11 +16,11 @@ use Rattle.form.specs.WellFormed.{wellFormed}
 use Rattle.permitted.specs.declared.Grants.{Grants}
 use Rattle.permitted.specs.Permitted.{hypervisor, permittedSet}
 use Rattle.permitted.specs.Asked.{askedChecks}
-use Rattle.enabled.specs.Graph.{Below, dependenciesIn, dependencyIn}
-use Rattle.enabled.specs.Chain.{Chain, Shortest, Smallest}
+use Rattle.closure.specs.Graph.{Below, dependenciesIn, dependencyIn}
+use Rattle.closure.specs.Chain.{Chain, Shortest, Smallest}
 use Rattle.enabled.proofs.DependencyLaws.{graph-below}
 use Rattle.enabled.proofs.AnswerLaws.{few}
-use Rattle.enabled.proofs.Demand3.{reported-chain, reported-shortest, reported-smallest, reported-fits}
+use Rattle.closure.proofs.Demand3.{reported-chain, reported-shortest, reported-smallest, reported-fits}
 use Rattle.chain.specs.Chain.{isEnabled, chainIn, chainChecks, chain, afterChain}
 
 -- a position of a well formed record that is not enabled, where the members of a set are permitted

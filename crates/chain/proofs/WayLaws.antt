@@ -11,12 +11,12 @@ use Rattle.positions.specs.Sets.{room, has, memberOutside}
 use Rattle.positions.proofs.BelowLaws.{and-left, and-right}
 use Rattle.positions.proofs.FirstLaws.{first-is}
 use Rattle.tables.specs.Tables.{rowAt}
-use Rattle.enabled.specs.Enabled.{afterSweeps}
-use Rattle.enabled.specs.Shortest.{next, chainWithin}
+use Rattle.closure.specs.Enabled.{afterSweeps}
+use Rattle.closure.specs.Shortest.{next, chainWithin}
 use Rattle.enabled.specs.Parts.{Shows}
-use Rattle.enabled.proofs.Sweeps.{sweeps-dependencies}
-use Rattle.enabled.proofs.Smallest.{smallest-is, smallest-le}
-use Rattle.enabled.proofs.Shortest.{next-is}
+use Rattle.closure.proofs.Sweeps.{sweeps-dependencies}
+use Rattle.closure.proofs.Smallest.{smallest-is, smallest-le}
+use Rattle.closure.proofs.Shortest.{next-is}
 use Rattle.chain.specs.Layers.{nextBelow, wayDown, AllBelow}
 use Rattle.chain.proofs.SweepLaws.{in-row, from-row, out-on}
 

@@ -12,9 +12,9 @@ use Rattle.record.specs.declared.Record.{Record}
 use Rattle.permitted.specs.declared.Grants.{Grants}
 use Rattle.permitted.specs.Permitted.{permittedSet}
 use Rattle.permitted.specs.Asked.{askedChecks}
-use Rattle.enabled.specs.Enabled.{enabled}
-use Rattle.enabled.specs.Shortest.{shortestChain}
-use Rattle.enabled.specs.Graph.{dependenciesIn, dependencyIn}
+use Rattle.closure.specs.Enabled.{enabled}
+use Rattle.closure.specs.Shortest.{shortestChain}
+use Rattle.closure.specs.Graph.{dependenciesIn, dependencyIn}
 use Rattle.chain.specs.declared.ChainTold.{ChainTold}
 
 -- whether a position is enabled, where those of a set are permitted

@@ -12,8 +12,8 @@ use Rattle.positions.specs.declared.Set.{Set}
 use Rattle.positions.specs.Below.{firstThat}
 use Rattle.positions.specs.Sets.{setWords, room, has, collect, isSubset, memberOutside}
 use Rattle.tables.specs.Tables.{rowAt}
-use Rattle.enabled.specs.Enabled.{enabled}
-use Rattle.enabled.specs.Shortest.{shortestChain}
+use Rattle.closure.specs.Enabled.{enabled}
+use Rattle.closure.specs.Shortest.{shortestChain}
 use Rattle.enabled.specs.Parts.{Shows}
 use Rattle.chain.specs.Chain.{chainOutcome}
 use Rattle.chain.specs.declared.ChainTold.{ChainTold}

@@ -16,18 +16,18 @@ use Rattle.record.specs.declared.Record.{Record}
 use Rattle.record.specs.Record.{mostFeatures}
 use Rattle.form.specs.WellFormed.{wellFormed}
 use Rattle.form.proofs.Formed.{formed}
-use Rattle.enabled.specs.Graph.{dependenciesIn, dependencyIn}
+use Rattle.closure.specs.Graph.{dependenciesIn, dependencyIn}
 use Rattle.permitted.specs.declared.Grants.{Grants}
 use Rattle.permitted.specs.Permitted.{permittedAt, permittedSet}
 use Rattle.permitted.specs.Asked.{askedChecks, Seen, examined}
 use Rattle.enabled.proofs.DependencyLaws.{graph-below, record-closed}
-use Rattle.enabled.proofs.Largest.{enabled-holds-all}
-use Rattle.enabled.specs.Enabled.{enabled}
+use Rattle.closure.proofs.Largest.{enabled-holds-all}
+use Rattle.closure.specs.Enabled.{enabled}
 use Rattle.enabled.proofs.CountLaws.{seen-counts}
 use Rattle.permitted.proofs.AskedLaws.{asked-refused, asked-answered, asked-formed, seen-number, seen-value}
 use Rattle.refusal.specs.Checks.{faultOf}
 use Rattle.enabled.specs.Answers.{Members, membersOf, nobody, enabledSet, enable}
-use Rattle.enabled.specs.Slots.{closedPart}
+use Rattle.closure.specs.Slots.{closedPart}
 use Rattle.enabled.specs.Parts.{CountsOf}
 
 -- a well formed record

@@ -13,7 +13,7 @@ use Rattle.form.specs.WellFormed.{wellFormed}
 use Rattle.form.proofs.Formed.{formed}
 use Rattle.permitted.specs.Asked.{dependencyCounts}
 use Rattle.tables.proofs.RowLaws.{each-at}
-use Rattle.enabled.specs.Graph.{dependenciesIn}
+use Rattle.closure.specs.Graph.{dependenciesIn}
 use Rattle.enabled.specs.Parts.{CountsOf}
 
 pub seen-counts : (r : Record) → wellFormed r ≡ true → {counts : List ℕ} → counts ≡ dependencyCounts r → CountsOf r counts

@@ -19,12 +19,12 @@ use Rattle.tables.specs.Tables.{rowAt, dependencyTable}
 use Rattle.tables.specs.Slots.{slotNumber, slotOf}
 use Rattle.tables.proofs.DependencyLaws.{inSlots}
 use Rattle.tables.proofs.TableLaws.{in-table}
-use Rattle.enabled.specs.Graph.{Below, dependenciesIn, dependencyIn}
-use Rattle.enabled.specs.Enabled.{enabled}
-use Rattle.enabled.specs.Slots.{slotsBelow, closedAmong, closedPart}
+use Rattle.closure.specs.Graph.{Below, dependenciesIn, dependencyIn}
+use Rattle.closure.specs.Enabled.{enabled}
+use Rattle.closure.specs.Slots.{slotsBelow, closedAmong, closedPart}
 use Rattle.enabled.specs.Answers.{enabledSet}
 use Rattle.enabled.specs.Parts.{CountsOf, Shows}
-use Rattle.enabled.proofs.Sweeps.{and-true, sweeps-agree}
+use Rattle.closure.proofs.Sweeps.{and-true, sweeps-agree}
 
 module _ (r : Record) (e : wellFormed r ≡ true) where
   pub graph-below : Below (r .count) (dependenciesIn r) (dependencyIn r)

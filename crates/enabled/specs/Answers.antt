@@ -9,8 +9,8 @@ use Rattle.permitted.specs.declared.Grants.{Grants}
 use Rattle.permitted.specs.Permitted.{permittedSet}
 use Rattle.permitted.specs.Asked.{askedChecks}
 use Rattle.enabled.specs.declared.Enabled.{Enabled}
-use Rattle.enabled.specs.Enabled.{enabled}
-use Rattle.enabled.specs.Graph.{dependenciesIn, dependencyIn}
+use Rattle.closure.specs.Enabled.{enabled}
+use Rattle.closure.specs.Graph.{dependenciesIn, dependencyIn}
 
 -- "The answer holds the set and a count; the count is the number of ones in the set"
 pub record Members : Type 0 where

@@ -1,8 +1,2 @@
-pub mod Graph
-pub mod Enabled
-pub mod Chain
-pub mod Reach
-pub mod Shortest
-pub mod Slots
 pub mod Parts
 pub mod Answers

@@ -19,8 +19,8 @@ use Rattle.permitted.specs.declared.Grants.{Grants}
 use Rattle.permitted.specs.Permitted.{hypervisor, permittedSet}
 use Rattle.permitted.specs.Asked.{askedChecks}
 use Rattle.permitted.proofs.AskedLaws.{all-good, asked-answered}
-use Rattle.enabled.specs.Graph.{Below, dependenciesIn, dependencyIn}
-use Rattle.enabled.specs.Chain.{Chain, end, link}
+use Rattle.closure.specs.Graph.{Below, dependenciesIn, dependencyIn}
+use Rattle.closure.specs.Chain.{Chain, end, link}
 use Rattle.enabled.specs.Answers.{Members, membersOf, nobody, enabledSet, enable, enabledOutcome}
 use Rattle.enabled.specs.declared.Enabled.{Enabled}
 use Rattle.enabled.proofs.DependencyLaws.{graph-below}

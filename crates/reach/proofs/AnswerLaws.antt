@@ -15,7 +15,7 @@ use Rattle.permitted.specs.Permitted.{permittedSet}
 use Rattle.permitted.specs.Asked.{Seen, examined}
 use Rattle.permitted.proofs.AskedLaws.{not-formed, all-good, asked-refused, asked-answered}
 use Rattle.tables.specs.Tables.{tableWords, dependencyTable, rowsInside}
-use Rattle.enabled.specs.Graph.{dependenciesIn, dependencyIn}
+use Rattle.closure.specs.Graph.{dependenciesIn, dependencyIn}
 use Rattle.enabled.specs.Parts.{CountsOf}
 use Rattle.enabled.specs.Answers.{Members, membersOf, nobody}
 use Rattle.enabled.proofs.DependencyLaws.{shows-table}

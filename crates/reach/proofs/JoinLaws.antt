@@ -15,7 +15,7 @@ use Rattle.tables.specs.Tables.{rowAt, rowOrNone, tableOf}
 use Rattle.tables.specs.Parts.{withRow}
 use Rattle.tables.proofs.RowLaws.{row-low}
 use Rattle.tables.proofs.TableLaws.{row-table, table-same, put-table}
-use Rattle.enabled.specs.Reach.{reach}
+use Rattle.closure.specs.Reach.{reach}
 use Rattle.enabled.specs.Parts.{Shows}
 use Rattle.reach.specs.Parts.{withSelf, joined, through, Joins, Reaches}
 use Rattle.reach.proofs.ThroughLaws.{Through, through-none, through-more, through-all}

@@ -13,10 +13,10 @@ use Rattle.positions.specs.Sets.{room}
 use Rattle.positions.proofs.BelowLaws.{no-way, and-left, and-right, some-at, some-is}
 use Rattle.record.specs.Record.{mostFeatures}
 use Rattle.tables.specs.Tables.{rowAt, inRow}
-use Rattle.enabled.specs.Graph.{Below}
-use Rattle.enabled.specs.Reach.{Needs, self, via, reach}
+use Rattle.closure.specs.Graph.{Below}
+use Rattle.closure.specs.Reach.{Needs, self, via, reach}
 use Rattle.enabled.specs.Parts.{Shows}
-use Rattle.enabled.proofs.Reach.{reach-needs, needs-below, needs-reach}
+use Rattle.closure.proofs.Reach.{reach-needs, needs-below, needs-reach}
 use Rattle.reach.specs.Parts.{withSelf, through}
 
 or-cases : (a b : Bool) → a || b ≡ true → (a ≡ true) ⊎ (b ≡ true)

@@ -11,8 +11,8 @@ use Rattle.permitted.specs.declared.Grants.{Grants}
 use Rattle.permitted.specs.Permitted.{permittedSet}
 use Rattle.permitted.specs.Asked.{askedChecks}
 use Rattle.tables.specs.Tables.{inRow, tableWords, tableOf}
-use Rattle.enabled.specs.Graph.{dependenciesIn, dependencyIn}
-use Rattle.enabled.specs.Reach.{reach, enabledByReach}
+use Rattle.closure.specs.Graph.{dependenciesIn, dependencyIn}
+use Rattle.closure.specs.Reach.{reach, enabledByReach}
 use Rattle.enabled.specs.Answers.{Members, membersOf, nobody}
 use Rattle.reach.specs.declared.ReachTable.{ReachTable}
 

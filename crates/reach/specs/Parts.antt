@@ -6,7 +6,7 @@ use mathlib.Core.List.{List}
 use lib.Dec.{eqb}
 use Rattle.positions.specs.Sets.{has, either}
 use Rattle.tables.specs.Tables.{rowAt, inRow, tableOf}
-use Rattle.enabled.specs.Reach.{reach}
+use Rattle.closure.specs.Reach.{reach}
 use Rattle.enabled.specs.Parts.{Shows}
 
 -- the dependencies of each of n positions, and itself

@@ -10,7 +10,7 @@ use Rattle.permitted.specs.declared.Grants.{Grants}
 use Rattle.permitted.specs.Permitted.{permittedSet}
 use Rattle.permitted.specs.Asked.{Seen, examined}
 use Rattle.permitted.proofs.AskedLaws.{asked-refused, asked-answered}
-use Rattle.enabled.specs.Slots.{closedPart}
+use Rattle.closure.specs.Slots.{closedPart}
 use Rattle.enabled.specs.Answers.{enabledSet}
 use Rattle.enabled.proofs.AnswerLaws.{number-seen, form-seen, closed-seen}
 use Rattle.words.specs.Words.{WordValues, noWords, wordsOf, words}

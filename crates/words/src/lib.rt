@@ -117,7 +117,7 @@ pub fn words(r: Record, level: u32, g: Grants) -> FeatureWords
     if refusal::number(refusal) != 0 {
         return refused(refusal);
     }
-    let set = enabled::closed_part(&slots, &x.counts, n, x.set);
+    let set = closure::closed_part(&slots, &x.counts, n, x.set);
     let mut hwcap: u64 = 0;
     let mut hfscr: u64 = 0;
     let mut fscr: u64 = 0;
