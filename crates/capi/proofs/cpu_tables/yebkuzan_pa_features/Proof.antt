@@ -1,5 +1,5 @@
 -- `capi::cpu_tables::yebkuzan_pa_features` meets its contract. Assumes nothing.
-use Rattle.capi.proofs.NumberLaws.{by-number}
+use mathlib.Core.Path.{_∙_}
 use borrow.Author.Needs.{needs}
 use Rattle.capi.proofs.cpu_tables.yebkuzan_pa_features.Statement.{statement}
 use Rattle.capi.proofs.cpu_tables.yebkuzan_pa_features.Tie as tie
@@ -7,11 +7,11 @@ use Rattle.capi.proofs.cpu_tables.yebkuzan_pa_features.Tie as tie
 pa-features-requires : tie.Need-pa-features-requires
 pa-features-requires c κs = search needs
 
-number-requires : tie.Need-number-requires
-number-requires c κs = search needs
+of-pa-features-requires : tie.Need-of-pa-features-requires
+of-pa-features-requires c κs = search needs
 
 returns : tie.Need-returns
-returns c = by-number (c .number .ensures) (c .before .before .pa-features .ensures)
+returns c = c .of-pa-features .ensures ∙ c .before .pa-features .ensures
 
 pub yebkuzan-pa-features-spec : {M : Type 1} → statement M
-yebkuzan-pa-features-spec = tie.close (tie.spec pa-features-requires number-requires returns)
+yebkuzan-pa-features-spec = tie.close (tie.spec pa-features-requires of-pa-features-requires returns)

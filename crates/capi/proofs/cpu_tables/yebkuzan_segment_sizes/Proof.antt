@@ -7,11 +7,11 @@ use Rattle.capi.proofs.cpu_tables.yebkuzan_segment_sizes.Tie as tie
 segment-sizes-requires : tie.Need-segment-sizes-requires
 segment-sizes-requires c κs = search needs
 
-numbered-requires : tie.Need-numbered-requires
-numbered-requires c κs = search needs
+of-sizes-requires : tie.Need-of-sizes-requires
+of-sizes-requires c κs = search needs
 
 returns : tie.Need-returns
-returns c = c .numbered .ensures ∙ c .before .segment-sizes .ensures
+returns c = c .of-sizes .ensures ∙ c .before .segment-sizes .ensures
 
 pub yebkuzan-segment-sizes-spec : {M : Type 1} → statement M
-yebkuzan-segment-sizes-spec = tie.close (tie.spec segment-sizes-requires numbered-requires returns)
+yebkuzan-segment-sizes-spec = tie.close (tie.spec segment-sizes-requires of-sizes-requires returns)

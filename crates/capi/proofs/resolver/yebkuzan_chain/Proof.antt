@@ -1,5 +1,5 @@
 -- `capi::resolver::yebkuzan_chain` meets its contract. Assumes nothing.
-use Rattle.capi.proofs.NumberLaws.{by-number}
+use mathlib.Core.Path.{_∙_}
 use borrow.Author.Needs.{needs}
 use Rattle.capi.proofs.resolver.yebkuzan_chain.Statement.{statement}
 use Rattle.capi.proofs.resolver.yebkuzan_chain.Tie as tie
@@ -7,14 +7,14 @@ use Rattle.capi.proofs.resolver.yebkuzan_chain.Tie as tie
 chain-requires : tie.Need-chain-requires
 chain-requires c κs = search needs
 
-number-requires : tie.Need-number-requires
-number-requires c κs = search needs
+of-chain-requires : tie.Need-of-chain-requires
+of-chain-requires c κs = search needs
 
 same-length : tie.Need-same-length
 same-length c = search needs
 
 returns : tie.Need-returns
-returns c = (by-number (c .number .ensures) (c .before .before .before .chain .ensures .0), c .before .before .before .chain .ensures .1)
+returns c = (c .of-chain .ensures ∙ c .before .before .before .chain .ensures .0, c .before .before .before .chain .ensures .1)
 
 pub yebkuzan-chain-spec : {M : Type 1} → statement M
-yebkuzan-chain-spec = tie.close (tie.spec chain-requires number-requires same-length returns)
+yebkuzan-chain-spec = tie.close (tie.spec chain-requires of-chain-requires same-length returns)

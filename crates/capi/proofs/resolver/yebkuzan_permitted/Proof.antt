@@ -1,5 +1,5 @@
 -- `capi::resolver::yebkuzan_permitted` meets its contract. Assumes nothing.
-use Rattle.capi.proofs.NumberLaws.{by-number}
+use mathlib.Core.Path.{_∙_}
 use borrow.Author.Needs.{needs}
 use Rattle.capi.proofs.resolver.yebkuzan_permitted.Statement.{statement}
 use Rattle.capi.proofs.resolver.yebkuzan_permitted.Tie as tie
@@ -7,11 +7,11 @@ use Rattle.capi.proofs.resolver.yebkuzan_permitted.Tie as tie
 permitted-requires : tie.Need-permitted-requires
 permitted-requires c κs = search needs
 
-number-requires : tie.Need-number-requires
-number-requires c κs = search needs
+of-permitted-requires : tie.Need-of-permitted-requires
+of-permitted-requires c κs = search needs
 
 returns : tie.Need-returns
-returns c = by-number (c .number .ensures) (c .before .before .permitted .ensures)
+returns c = c .of-permitted .ensures ∙ c .before .permitted .ensures
 
 pub yebkuzan-permitted-spec : {M : Type 1} → statement M
-yebkuzan-permitted-spec = tie.close (tie.spec permitted-requires number-requires returns)
+yebkuzan-permitted-spec = tie.close (tie.spec permitted-requires of-permitted-requires returns)

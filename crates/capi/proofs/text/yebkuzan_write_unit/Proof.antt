@@ -1,7 +1,7 @@
 -- `capi::text::yebkuzan_write_unit` meets its contract. Assumes nothing.
 use native.Mathlib.Omega.{arith}
 use Rattle.capi.proofs.UnitLaws.{length-short}
-use Rattle.capi.proofs.NumberLaws.{by-number}
+use Rattle.answers.proofs.NumberLaws.{by-number}
 use borrow.Author.Needs.{needs}
 use Rattle.capi.proofs.text.yebkuzan_write_unit.Statement.{statement}
 use Rattle.capi.proofs.text.yebkuzan_write_unit.Tie as tie

@@ -1,6 +1,6 @@
 -- `capi::tree::yebkuzan_read` meets its contract. Assumes nothing.
 use native.Mathlib.Omega.{arith}
-use Rattle.capi.proofs.NumberLaws.{by-number-placed}
+use Rattle.answers.proofs.NumberLaws.{by-number-placed}
 use Rattle.capi.proofs.PlaceLaws.{place-low}
 use borrow.Author.Needs.{needs}
 use Rattle.capi.proofs.tree.yebkuzan_read.Statement.{statement}
