@@ -4,8 +4,7 @@
 A name between backquotes is looked at where its form says what it is:
   crate/specs/File.antt    a file below crates/ (specs, proofs, src)
   crate::function          a function of that crate
-  crate/label              a must-fail edit, where the words before it, or the head of its column, say `edit`; a label without a crate
-                           is of the crate named last
+  crate/label              a must-fail edit, where the words before it say `edit`; a label without a crate is of the crate named last
   name, other (`crate/specs/File.antt`)    names that stand in that file
 And README.md's table has every listed crate, and no other."""
 import pathlib
@@ -52,30 +51,26 @@ def check_functions(document, line, text, crates):
                 fault(document, line, f"no function {crate}::{function}")
 
 
-def check_labels(document, line, text, crates, crate):
-    """Labels of edits: `crate/label`, or `label` of the crate named last."""
-    for quoted in QUOTED.findall(text):
-        named = re.fullmatch(r"(?:([a-z_]+)/)?([a-z0-9_*]+)", quoted)
-        if not named or (named.group(1) and named.group(1) not in crates):
-            return
-        if not named.group(1) and named.group(2) in crates:
-            crate = named.group(2)
-            continue
-        crate = named.group(1) or crate
-        if crate is None:
-            return
-        if not list((CRATES / crate / "must-fail").glob(named.group(2) + ".edit")):
-            fault(document, line, f"no edit {crate}/{named.group(2)}")
-
-
 def check_edits(document, line, text, crates):
     for listing in re.findall(r"\bedits? ((?:of )?`[^;|.]*)", text):
-        check_labels(document, line, listing.split("vectors")[0], crates, None)
+        crate = None
+        for quoted in QUOTED.findall(listing.split("vectors")[0]):
+            named = re.fullmatch(r"(?:([a-z_]+)/)?([a-z0-9_*]+)", quoted)
+            if not named or (named.group(1) and named.group(1) not in crates):
+                break
+            if not named.group(1) and named.group(2) in crates:
+                crate = named.group(2)
+                continue
+            crate = named.group(1) or crate
+            if crate is None:
+                break
+            if not list((CRATES / crate / "must-fail").glob(named.group(2) + ".edit")):
+                fault(document, line, f"no edit {crate}/{named.group(2)}")
 
 
 def check_names(document, line, text):
     """`name`, `other` (`crate/specs/File.antt`): each of the names before the file stands in it."""
-    for names, path in re.findall(r"((?:`[\w'·*-]+`(?:, (?:`)| and (?:`))?)*`[\w'·-]+`) \(`(" + PATH.pattern + ")`", text):
+    for names, path in re.findall(r"((?:`[^`]+`(?:, | and ))*`[^`]+`) \(`(" + PATH.pattern + ")`", text):
         file = CRATES / path
         if not file.is_file():
             continue
@@ -96,15 +91,7 @@ def main():
     check_table(crates)
     for document in [TOP / "README.md", *sorted((TOP / "docs").rglob("*.md"))]:
         name = document.relative_to(TOP)
-        column = None
         for line, text in enumerate(document.read_text().splitlines(), 1):
-            head = re.search(r"^\| function \|.*\| edits of `([a-z_]+)` \|$", text)
-            if head:
-                column = head.group(1)
-            elif not text.startswith("|"):
-                column = None
-            elif column:
-                check_labels(name, line, text.split("|")[-2], crates, column)
             check_paths(name, line, text)
             check_functions(name, line, text, crates)
             check_edits(name, line, text, crates)
