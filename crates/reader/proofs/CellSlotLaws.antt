@@ -17,7 +17,9 @@ use Rattle.reading.specs.Nodes.{Node}
 use Rattle.reading.specs.Values.{Value, missing, cellsOf}
 use Rattle.reading.specs.Dependencies.{Carrier, nowhere, position, carrier, isSomewhere, slotOf, cellChecks}
 use Rattle.reading.specs.Ends.{AllHold, FirstFailing}
-use Rattle.reader.specs.Parts.{Lies, FirstThat, notedAt, ArePhandles, CellsLie, Resolves, ResolvesCells}
+use Rattle.feature.specs.Phandles.{notedAt}
+use Rattle.feature.proofs.CarrierLaws.{FirstThat}
+use Rattle.reader.specs.Parts.{Lies, ArePhandles, CellsLie, Resolves, ResolvesCells}
 use Rattle.reading.proofs.CheckLaws.{hold-both, fail-left, fail-right, fail-here}
 use Rattle.reader.proofs.CellPlaceLaws.{cells-lie}
 use Rattle.reader.proofs.PropertyLaws.{count as count-of}

@@ -16,7 +16,7 @@ use Rattle.refusal.specs.Refusal.{Fault, fault}
 use Rattle.refusal.specs.Checks.{Check, check}
 use Rattle.tokens.specs.Steps.{pick}
 use Rattle.tokens.specs.Tokens.{Token}
-use Rattle.reader.specs.declared.cell.CellRead.{CellRead}
+use Rattle.feature.specs.declared.CellRead.{CellRead}
 use Rattle.reading.specs.Nodes.{Node}
 use Rattle.reading.specs.Values.{Value, missing, value, valueIn, valueOf, isText, isCell}
 use Rattle.reading.specs.Features.{requiredChecks}

@@ -11,15 +11,18 @@ use Rattle.walk.specs.Walk.{treeTokens}
 use Rattle.refusal.specs.declared.Refusal.{Refusal}
 use Rattle.refusal.specs.Refusal.{numberOf}
 use Rattle.record.specs.declared.Feature.{Feature}
-use Rattle.reader.specs.declared.cell.CellRead.{CellRead}
+use Rattle.feature.specs.declared.CellRead.{CellRead}
 use Rattle.reader.specs.declared.nodes.NodePlace.{NodePlace}
-use Rattle.reader.specs.declared.feature.FeatureCells.{FeatureCells}
+use Rattle.feature.specs.declared.FeatureCells.{FeatureCells}
+use Rattle.feature.specs.Feature.{refusalOf, featureFrom}
+use Rattle.feature.specs.Phandles.{noted}
+use Rattle.feature.proofs.RefusalLaws.{first-none, first-zero}
 use Rattle.reading.specs.Nodes.{Node}
 use Rattle.reading.specs.Values.{Value, lowBit}
 use Rattle.reading.specs.Features.{bitChecks, featureChecks, givenWord, featureOf}
-use Rattle.reader.specs.Parts.{IsNode, Holds, CellIs, Judged, noted, notedOf, ArePhandles, BitIs, CellsAre, refusalOf, featureFrom, ReadsFeature}
+use Rattle.reader.specs.Parts.{IsNode, Holds, CellIs, Judged, notedOf, ArePhandles, BitIs, CellsAre, ReadsFeature}
 use Rattle.reader.proofs.JudgedLaws.{judged-both}
-use Rattle.reader.proofs.PropertyLaws.{first-none, first-zero, required-judged, optional-judged}
+use Rattle.reader.proofs.PropertyLaws.{required-judged, optional-judged}
 
 -- bit 0 of a support cell
 support-judged : {needed : Bool} {v u : Value} {s r : CellRead} → CellIs needed v s → numberOf (s .refusal) ≡ 0 → BitIs (bit (s .number) 0) u r → (at : ℕ)

@@ -7,7 +7,8 @@ use native.Mathlib.Omega.{arith}
 use Rattle.refusal.specs.Refusal.{Fault, fault}
 use Rattle.refusal.specs.Checks.{Check, check}
 use Rattle.reading.proofs.CheckLaws.{hold-both, fail-left, fail-right, fail-here}
-use Rattle.reader.specs.Parts.{Judged, firstOf}
+use Rattle.feature.specs.Feature.{firstOf}
+use Rattle.reader.specs.Parts.{Judged}
 
 -- one check
 pub judged-check : (b : Bool) (k p : ℕ) {n : ℕ} → 0 < k → (b ≡ true → n ≡ 0) → (b ≡ false → n ≡ k) → Judged (check b (fault k p) ∷ []) n p

@@ -4,8 +4,7 @@ use mathlib.Core.Bool.{Bool, true, false}
 use mathlib.Core.List.{List, [], _∷_, map}
 use Prim.Native.Nat.{ℕ, zero, suc, _+_, _-_, _<_, _≤_}
 use native.Mathlib.Omega.{arith}
-use borrow.Author.Count.{below-none, below-more}
-use borrow.Author.Tests.{eq-eqb, ne-eqb}
+use borrow.Author.Tests.{ne-eqb}
 use lib.Dec.{eqb}
 use lib.ListN.{length, getD, replicate, length-map, List·getD-append}
 use Rattle.cells.specs.Rows.{padded}
@@ -16,7 +15,9 @@ use Rattle.reading.specs.Values.{Value, missing, value, valueOf, isGiven, numbe
 use Rattle.reading.specs.Features.{isCarried, carries}
 use Rattle.reading.specs.Dependencies.{Carrier, nowhere, position, carrierFrom, carrier}
 use Rattle.reading.specs.Reading.{nodeAt}
-use Rattle.reader.specs.Parts.{FirstThat, noted, notedOf, notedAt, ArePhandles}
+use Rattle.feature.specs.Phandles.{noted, notedAt}
+use Rattle.feature.proofs.CarrierLaws.{FirstThat}
+use Rattle.reader.specs.Parts.{notedOf, ArePhandles}
 
 -- what a row has of the node at an index
 map-at : {A : Type 0} (f : Node → A) (z : A) (ns : List Node) (i : ℕ) → i < length ns → getD (map f ns) i z ≡ f (nodeAt ns i)
@@ -42,33 +43,6 @@ noted-carries phandles nodes h p l i k =
     ap (λ (xs : List ℕ). eqb (getD xs i 0) p) h
     ∙ ap (λ (x : ℕ). eqb x p) (row-at mostFeatures 0 notedOf nodes i k)
     ∙ noted-value (valueOf (nodeAt nodes i) "phandle") p l
-
--- the search for the first position that passes a test
-module _ (test : ℕ → Bool) (n : ℕ) where
-  pub record Sought (i : ℕ) : Type 0 where
-    pub low : i ≤ n
-    pub before : (k : ℕ) → k < i → test k ≡ false
-
-  pub seek-begins : Sought 0
-  seek-begins = record { low = omega arith; before = below-none (λ (k : ℕ). test k ≡ false) }
-
-  pub seek-more : {i : ℕ} → Sought i → i < n → test i ≡ false → Sought (i + 1)
-  seek-more {i} s h e = record { low = omega arith; before = below-more (λ (k : ℕ). test k ≡ false) i (s .before) e }
-
-  pub seek-found : {i : ℕ} → Sought i → test i ≡ true → FirstThat test n i
-  seek-found s e = record { within = s .low; before = s .before; there = λ l. e }
-
-  pub seek-none : {i r : ℕ} → Sought i → r ≡ n → n ≤ i → FirstThat test n r
-  seek-none {i} {r} s e h = record { within = omega arith; before = λ k l. s .before k (omega arith); there = λ l. absurd (omega arith) }
-
--- the test, as the code makes it
-pub noted-is : (phandles : List ℕ) (p i : ℕ) → getD phandles i 0 ≡ p → notedAt phandles p i ≡ true
-unfolding notedAt
-noted-is phandles p i e = eq-eqb (getD phandles i 0) p e
-
-pub noted-other : (phandles : List ℕ) (p i : ℕ) → (getD phandles i 0 ≡ p → ⊥) → notedAt phandles p i ≡ false
-unfolding notedAt
-noted-other phandles p i e = ne-eqb (getD phandles i 0) p e
 
 -- the carrier is the first that carries the phandle
 abbrev behind : ℕ → ℕ → List Node → Bool → Carrier

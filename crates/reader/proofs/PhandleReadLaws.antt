@@ -12,16 +12,20 @@ use Rattle.tokens.specs.Steps.{pick}
 use Rattle.positions.proofs.BelowLaws.{no-way}
 use Rattle.refusal.specs.declared.Refusal.the-variants.{OutOfRange, Repeated}
 use Rattle.refusal.specs.Refusal.{numberOf}
-use Rattle.reader.specs.declared.cell.CellRead.{CellRead}
+use Rattle.feature.specs.declared.CellRead.{CellRead}
+use Rattle.feature.specs.Feature.{firstOf}
+use Rattle.feature.specs.Phandles.{notedAt}
+use Rattle.feature.proofs.RefusalLaws.{first-zero}
+use Rattle.feature.proofs.CarrierLaws.{FirstThat}
 use Rattle.reading.specs.Nodes.{Node}
 use Rattle.reading.specs.Values.{Value, missing, value, isGiven, number}
 use Rattle.reading.specs.Features.{some, carries, isPhandle, isRepeated, phandleChecks}
 use Rattle.reading.specs.Reading.{nodeAt}
-use Rattle.reader.specs.Parts.{noCell, cellFault, Holds, CellIs, atMost, Judged, FirstThat, notedAt, ArePhandles, PhandleIs, firstOf}
+use Rattle.reader.specs.Parts.{noCell, cellFault, Holds, CellIs, atMost, Judged, ArePhandles, PhandleIs}
 use Rattle.reader.proofs.JudgedLaws.{judged-both}
 use Rattle.reading.proofs.Carriers.{some-none}
 use Rattle.reader.proofs.PhandleLaws.{noted-carries}
-use Rattle.reader.proofs.PropertyLaws.{first-zero, judged-pick, form-judged}
+use Rattle.reader.proofs.PropertyLaws.{judged-pick, form-judged}
 use Rattle.reader.proofs.RangeLaws.{Ranged, ranged}
 
 -- a phandle: "neither 0 nor all ones"

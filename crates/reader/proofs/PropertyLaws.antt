@@ -2,7 +2,7 @@
 use mathlib.Core.Path.{_≡_, refl, sym, _∙_}
 use mathlib.Core.Bool.{Bool, true, false, not}
 use mathlib.Core.List.{List, [], _∷_}
-use Prim.Native.Nat.{ℕ, zero, suc, _/_, _%_, _<_, _≤_}
+use Prim.Native.Nat.{ℕ, _/_, _%_, _<_, _≤_}
 use native.Mathlib.Omega.{arith}
 use borrow.Author.Tests.{eq-eqb, ne-eqb, le-leb, lt-leb}
 use lib.Dec.{eqb, leb}
@@ -14,28 +14,13 @@ use Rattle.refusal.specs.declared.Refusal.the-variants.{None, PropertyForm, Too
 use Rattle.refusal.specs.Refusal.{fault, numberOf}
 use Rattle.refusal.specs.Checks.{check}
 use Rattle.record.specs.Record.{mostDependencies}
-use Rattle.reader.specs.declared.cell.CellRead.{CellRead}
+use Rattle.feature.specs.declared.CellRead.{CellRead}
+use Rattle.feature.specs.Feature.{firstOf}
 use Rattle.reading.specs.Values.{Value, missing, value, isGiven, isCellOrMissing, isCells, cellsOf}
 use Rattle.reading.specs.Features.{requiredChecks, optionalChecks}
-use Rattle.reader.specs.Parts.{Lies, noCell, cellFault, CellIs, Judged, CountIs, firstOf}
+use Rattle.reader.specs.Parts.{Lies, noCell, cellFault, CellIs, Judged, CountIs}
 use Rattle.reader.proofs.JudgedLaws.{judged-check, judged-both}
 use Rattle.reader.proofs.CellReadLaws.{long}
-
--- the first of two numbers that is a refusal
-pub first-left : (m n : ℕ) → (m ≡ 0 → ⊥) → m ≡ firstOf m n
-first-left zero n z = absurd (z refl)
-first-left (suc m) n z = refl
-
-pub first-right : (m n : ℕ) → m ≡ 0 → n ≡ firstOf m n
-first-right m n z = rw z
-
-pub first-none : (m : ℕ) → m ≡ firstOf m 0
-first-none zero = refl
-first-none (suc m) = refl
-
-pub first-zero : (m n : ℕ) → firstOf m n ≡ 0 → (m ≡ 0) × (n ≡ 0)
-first-zero zero n e = (refl, e)
-first-zero (suc m) n e = absurd (omega arith)
 
 -- one check, by its own test
 pub judged-pick : (b : Bool) (k p : ℕ) → 0 < k → Judged (check b (fault k p) ∷ []) (pick b 0 k) p

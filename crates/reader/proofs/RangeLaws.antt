@@ -9,11 +9,13 @@ use Rattle.tokens.specs.Steps.{pick}
 use Rattle.refusal.specs.declared.Refusal.the-variants.{OutOfRange}
 use Rattle.refusal.specs.Refusal.{numberOf}
 use Rattle.record.specs.Record.{highestBit}
-use Rattle.reader.specs.declared.cell.CellRead.{CellRead}
+use Rattle.feature.specs.declared.CellRead.{CellRead}
+use Rattle.feature.specs.Feature.{firstOf}
+use Rattle.feature.proofs.RefusalLaws.{first-left}
 use Rattle.reading.specs.Values.{Value, number}
-use Rattle.reader.specs.Parts.{noCell, cellFault, Holds, CellIs, atMost, BitIs, firstOf}
+use Rattle.reader.specs.Parts.{noCell, cellFault, Holds, CellIs, atMost, BitIs}
 use Rattle.reader.proofs.JudgedLaws.{judged-both}
-use Rattle.reader.proofs.PropertyLaws.{first-left, judged-pick, given-judged}
+use Rattle.reader.proofs.PropertyLaws.{judged-pick, given-judged}
 
 -- a cell that is at most some number: its refusal, and its cell
 pub record Ranged (high : ℕ) (needed : Bool) (v : Value) (r : CellRead) : Type 0 where

@@ -14,7 +14,7 @@ use Rattle.record.specs.declared.Record.{Record}
 use Rattle.record.specs.Record.{noFeatures}
 use Rattle.walk.specs.declared.Containers.{Containers}
 use Rattle.walk.specs.Containers.{firstTwo}
-use Rattle.reader.specs.declared.cell.CellRead.{CellRead}
+use Rattle.feature.specs.declared.CellRead.{CellRead}
 use Rattle.reading.specs.Nodes.{Node, children}
 use Rattle.reading.specs.Features.{inOrder, nameChecks, featureChecks}
 use Rattle.reading.specs.Dependencies.{carrierChecks}

@@ -17,8 +17,8 @@ use Rattle.record.specs.declared.Record.{Record}
 use Rattle.record.specs.declared.Feature.{Feature}
 use Rattle.record.specs.Record.{mostFeatures, mostDependencies, noFeature, noFeatures}
 use Rattle.reader.specs.declared.nodes.Features.{Features}
-use Rattle.reader.specs.declared.feature.FeatureRead.{FeatureRead}
-use Rattle.reader.specs.declared.feature.FeaturesRead.{FeaturesRead}
+use Rattle.reader.specs.declared.features.FeatureRead.{FeatureRead}
+use Rattle.reader.specs.declared.features.FeaturesRead.{FeaturesRead}
 use Rattle.reader.specs.declared.dependencies.Finding.{Finding}
 use Rattle.reading.specs.Nodes.{Node, children}
 use Rattle.reading.specs.Values.{valueOf, cellsOf}

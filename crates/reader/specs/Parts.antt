@@ -1,5 +1,5 @@
 -- What the parts of the reader's code answer. The promises of the public functions rest on `Reading`, not on this file.
-use Prim.Native.Nat.{ℕ, zero, suc, _+_, _*_, _≤_, _<_}
+use Prim.Native.Nat.{ℕ, _+_, _*_, _≤_, _<_}
 use mathlib.Core.Path.{_≡_}
 use mathlib.Core.Bool.{Bool, true, false}
 use mathlib.Core.List.{List, [], _∷_, _++_, map}
@@ -17,7 +17,6 @@ use Rattle.record.specs.declared.Record.{Record}
 use Rattle.record.specs.declared.Feature.{Feature}
 use Rattle.record.specs.Record.{mostFeatures, mostDependencies, slotCount, noFeature, noFeatures}
 use Rattle.characters.specs.Characters.{bytes}
-use Rattle.positions.specs.Below.{oneIf}
 use Rattle.positions.specs.Bits.{bit}
 use Rattle.reader.specs.declared.nodes.Move.{Move}
 use Rattle.reader.specs.declared.nodes.Move.the-variants.{Child, Past}
@@ -32,17 +31,18 @@ use Rattle.refusal.specs.declared.Refusal.{Refusal}
 use Rattle.refusal.specs.declared.Refusal.the-variants.{OutOfRange}
 use Rattle.tokens.specs.Steps.{pick}
 use lib.Dec.{eqb, leb}
-use Rattle.reader.specs.declared.cell.CellRead.{CellRead}
+use Rattle.feature.specs.declared.CellRead.{CellRead}
+use Rattle.feature.specs.declared.SupportCells.{SupportCells}
+use Rattle.feature.specs.declared.BitCells.{BitCells}
+use Rattle.feature.specs.declared.FeatureCells.{FeatureCells}
+use Rattle.feature.specs.Phandles.{noted}
 use Rattle.reading.specs.Reading.{nodeAt, containerProperties, countChecks, recordOf}
 use Rattle.reading.specs.Values.{Value, missing, value, valueIn, valueOf, isGiven, number, cellsOf}
 use Rattle.reading.specs.Features.{inOrder, nameChecks, bitChecks, phandleChecks, dependenciesChecks, featureChecks, featureOf}
 use Rattle.reading.specs.Dependencies.{carrier, slotOf, cellChecks, carrierChecks, slotsOf}
 use Rattle.reading.specs.Ends.{AllHold, FirstFailing}
-use Rattle.reader.specs.declared.feature.SupportCells.{SupportCells}
-use Rattle.reader.specs.declared.feature.BitCells.{BitCells}
-use Rattle.reader.specs.declared.feature.FeatureCells.{FeatureCells}
-use Rattle.reader.specs.declared.feature.FeatureRead.{FeatureRead}
-use Rattle.reader.specs.declared.feature.FeaturesRead.{FeaturesRead}
+use Rattle.reader.specs.declared.features.FeatureRead.{FeatureRead}
+use Rattle.reader.specs.declared.features.FeaturesRead.{FeaturesRead}
 use Rattle.reader.specs.declared.dependencies.Finding.{Finding}
 
 -- where a value lies in a tree
@@ -139,22 +139,9 @@ pub record CountIs (v : Value) (r : CellRead) : Type 0 where
   pub given : numberOf (r .refusal) ≡ 0 → r .given ≡ isGiven v
   pub number : numberOf (r .refusal) ≡ 0 → r .number ≡ length (cellsOf v)
 
--- the first position below n that passes a test; n where there is none
-pub record FirstThat (test : ℕ → Bool) (n r : ℕ) : Type 0 where
-  pub within : r ≤ n
-  pub before : (i : ℕ) → i < r → test i ≡ false
-  pub there : r < n → test r ≡ true
-
--- what is noted of a feature's phandle: a number that no cell holds where there is none
-abbrev pub noted : Bool → ℕ → ℕ
-noted given n = pick given n 0x100000000
-
+-- what is noted of a node's phandle
 abbrev pub notedOf : Node → ℕ
 notedOf n = noted (isGiven (valueOf n "phandle")) (number (valueOf n "phandle"))
-
--- the feature at a position carries a phandle
-unfoldable pub notedAt : List ℕ → ℕ → ℕ → Bool
-notedAt phandles p i = eqb (getD phandles i 0) p
 
 abbrev pub ArePhandles : List ℕ → List Node → Type 0
 ArePhandles phandles nodes = phandles ≡ padded mostFeatures 0 (map notedOf nodes)
@@ -190,49 +177,6 @@ pub record CellsAre (ts : List Token) (phandles : List ℕ) (n : ℕ) (r : Featu
   pub bits : BitsAre ts (r .support) (r .bits)
   pub phandle : PhandleIs phandles n (valueIn (bytes "phandle") ts) (r .phandle)
   pub dependencies : CountIs (valueIn (bytes "dependencies") ts) (r .dependencies)
-
--- the first of two numbers that is a refusal
-abbrev pub firstOf : ℕ → ℕ → ℕ
-firstOf zero n = n
-firstOf (suc m) n = suc m
-
-abbrev pub refusalOf : FeatureCells → ℕ
-refusalOf c =
-    firstOf (numberOf (c .isa .refusal))
-    (firstOf (numberOf (c .support .«usable_privilege» .refusal))
-    (firstOf (numberOf (c .support .«hv_support» .refusal))
-    (firstOf (numberOf (c .support .«os_support» .refusal))
-    (firstOf (numberOf (c .bits .«hfscr_bit_nr» .refusal))
-    (firstOf (numberOf (c .bits .«fscr_bit_nr» .refusal))
-    (firstOf (numberOf (c .bits .«hwcap_bit_nr» .refusal))
-    (firstOf (numberOf (c .phandle .refusal)) (firstOf (numberOf (c .dependencies .refusal)) 0))))))))
-
-abbrev pub givenBits : FeatureCells → ℕ
-givenBits c =
-    oneIf (c .isa .given) * 1
-    + oneIf (c .support .«usable_privilege» .given) * 2
-    + oneIf (c .support .«hv_support» .given) * 4
-    + oneIf (c .support .«os_support» .given) * 8
-    + oneIf (c .bits .«hfscr_bit_nr» .given) * 16
-    + oneIf (c .bits .«fscr_bit_nr» .given) * 32
-    + oneIf (c .bits .«hwcap_bit_nr» .given) * 64
-    + oneIf (c .phandle .given) * 128
-    + oneIf (c .dependencies .given) * 256
-
-abbrev pub featureFrom : ℕ → FeatureCells → Feature
-featureFrom at c = record {
-  offset = at;
-  given = givenBits c;
-  isa = c .isa .number;
-  «usable_privilege» = c .support .«usable_privilege» .number;
-  «hv_support» = c .support .«hv_support» .number;
-  «os_support» = c .support .«os_support» .number;
-  «hfscr_bit_nr» = c .bits .«hfscr_bit_nr» .number;
-  «fscr_bit_nr» = c .bits .«fscr_bit_nr» .number;
-  «hwcap_bit_nr» = c .bits .«hwcap_bit_nr» .number;
-  phandle = c .phandle .number;
-  dependencies = c .dependencies .number;
-}
 
 -- one feature behind others: what its checks find, and the feature and what is noted of its phandle where they find nothing
 pub record FeatureIs (before : List Node) (n : Node) (old new : List ℕ) (r : FeatureRead) : Type 0 where

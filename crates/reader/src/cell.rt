@@ -1,27 +1,19 @@
 // Properties of one cell.
 use crate::nodes::Held;
 use crate::nodes::value_of;
+use feature::CellRead;
 use header::Blocks;
 use record::HIGHEST_BIT;
 use record::MOST_DEPENDENCIES;
 use refusal::Refusal;
 ghost use mathlib.Core.Path.{_≡_};
-ghost use Prim.Native.Nat.{_*_, _≤_};
+ghost use Prim.Native.Nat.{_≤_};
 ghost use lib.ListN.{length as length-of};
 ghost use Rattle.characters.specs.Characters.{bytes};
-ghost use Rattle.refusal.specs.Refusal.{numberOf};
-ghost use Rattle.positions.specs.Below.{oneIf};
 ghost use Rattle.positions.specs.Bits.{bit as bit-of};
 ghost use Rattle.walk.specs.Walk.{treeTokens};
 ghost use Rattle.reading.specs.Values.{valueIn};
-ghost use Rattle.reader.specs.Parts.{noCell, CellIs, atMost, CountIs, BitIs, firstOf};
-
-// A property of one cell: its refusal; where there is none, whether it is given, and its number, zero where it is not.
-pub(crate) struct CellRead {
-    pub(crate) refusal: Refusal,
-    pub(crate) given: bool,
-    pub(crate) number: u32,
-}
+ghost use Rattle.reader.specs.Parts.{noCell, CellIs, atMost, CountIs, BitIs};
 
 // No cell: it is refused, or not given.
 pub(crate) fn no_cell(refusal: Refusal) -> CellRead
@@ -113,22 +105,4 @@ pub(crate) fn read_count(tree: &[u8], b: Blocks, first: usize) -> CellRead
         given: true,
         number: n as u32,
     }
-}
-
-// A bit of the word `given`: set where the cell is given.
-pub(crate) fn given_bit(c: CellRead, bit: u32) -> u32
-    ensures { λ r. ⌜ (r ≡ oneIf (c .given) * bit) × (r ≤ bit) ⌝ }
-{
-    if c.given { bit } else { 0 }
-}
-
-// The refusal of a property, or that of those behind it.
-pub(crate) fn first_of(c: CellRead, others: Refusal) -> Refusal
-    ensures { λ r. ⌜ numberOf r ≡ firstOf (numberOf (c .refusal)) (numberOf others) ⌝ }
-{
-    let refusal = c.refusal;
-    if refusal::number(refusal) != 0 {
-        return refusal;
-    }
-    others
 }

@@ -1,8 +1,8 @@
 // Dependencies: each phandle becomes the position of the feature that carries it.
-use crate::feature::carrier_below;
 use crate::nodes::Features;
 use crate::nodes::Held;
 use crate::nodes::value_of;
+use feature::carrier_below;
 use header::Blocks;
 use record::MOST_DEPENDENCIES;
 use record::MOST_FEATURES;

@@ -1,15 +1,15 @@
 // The feature record of a tree.
 mod cell;
 mod dependencies;
-mod feature;
+mod features;
 mod nodes;
 
-use cell::CellRead;
 use cell::no_cell;
 use cell::read_cell;
 use dependencies::resolve;
+use feature::CellRead;
 use feature::no_feature;
-use feature::read_features;
+use features::read_features;
 use header::Blocks;
 use nodes::Features;
 use nodes::Held;

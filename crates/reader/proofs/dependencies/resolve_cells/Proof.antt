@@ -1,7 +1,9 @@
 -- `reader::dependencies::resolve_cells` meets its contract. Assumes nothing.
 use Prim.Native.Nat.{_-_}
+use Rattle.feature.proofs.CarrierLaws.{first-that}
 use Rattle.reader.proofs.CellSlotLaws.{CellsResolved, cells-begin, cells-resolved, cells-more, cells-fail}
 use native.Mathlib.Omega.{arith}
+use borrow.Author.Needs.{needs}
 use Rattle.reader.proofs.dependencies.resolve_cells.Statement.{statement}
 use Rattle.reader.proofs.dependencies.resolve_cells.Tie as tie
 
@@ -24,12 +26,13 @@ cell-at-requires : tie.Need-cell-at-requires Inv-loop μ-loop
 cell-at-requires c κs = omega arith
 
 carrier-below-requires : tie.Need-carrier-below-requires Inv-loop μ-loop
-carrier-below-requires c κs = omega arith
+carrier-below-requires c κs = search needs
 
 returns : tie.Need-returns Inv-loop μ-loop
 returns c =
     let l = c .before .before .before .before .loop .inv in
-    cells-fail _ _ _ _ _ _ _ l (omega arith) (c .before .before .cell-at .ensures) (omega arith) (c .before .carrier-below .ensures) (omega arith)
+    cells-fail _ _ _ _ _ _ _ l (omega arith) (c .before .before .cell-at .ensures) (omega arith)
+    (first-that (omega arith) (c .before .carrier-below .ensures)) (omega arith)
 
 cast-slots : tie.Need-cast-slots Inv-loop μ-loop
 cast-slots c = omega arith
@@ -52,8 +55,8 @@ loop-less c = omega arith
 loop-again : tie.Need-loop-again Inv-loop μ-loop
 loop-again c =
     let l = c .before .before .before .before .loop .inv in
-    let k = c .before .carrier-below .ensures in
-    cells-more _ _ _ _ _ _ _ l (omega arith) (c .before .before .cell-at .ensures) (omega arith) k (omega arith) (omega arith)
+    cells-more _ _ _ _ _ _ _ l (omega arith) (c .before .before .cell-at .ensures) (omega arith)
+    (first-that (omega arith) (c .before .carrier-below .ensures)) (omega arith) (omega arith)
 
 returns-2 : tie.Need-returns-2 Inv-loop μ-loop
 returns-2 c = cells-resolved _ _ _ _ _ _ _ (c .before .loop .inv) (omega arith)

@@ -1,39 +1,37 @@
 // The properties of a feature, and all features in order.
-use crate::cell::CellRead;
 use crate::cell::at_most;
-use crate::cell::first_of;
-use crate::cell::given_bit;
 use crate::cell::no_cell;
 use crate::cell::read_bit;
 use crate::cell::read_cell;
 use crate::cell::read_count;
 use crate::nodes::Features;
 use crate::nodes::NodePlace;
+use feature::BitCells;
+use feature::CellRead;
+use feature::FeatureCells;
+use feature::SupportCells;
+use feature::carrier_below;
+use feature::feature_of;
+use feature::no_feature;
+use feature::phandle_noted;
+use feature::refusal_of;
 use header::Blocks;
 use record::Feature;
 use record::MOST_FEATURES;
 use refusal::Refusal;
-ghost use mathlib.Core.Path.{_≡_};
 ghost use mathlib.Core.List.{[]};
 ghost use Prim.Native.Nat.{_≤_, _<_};
 ghost use lib.ListN.{length as length-of};
 ghost use Rattle.characters.specs.Characters.{bytes};
-ghost use Rattle.refusal.specs.Refusal.{numberOf};
 ghost use Rattle.header.specs.Header.{largestTree};
-ghost use Rattle.record.specs.Record.{mostFeatures, noFeature};
+ghost use Rattle.record.specs.Record.{mostFeatures};
 ghost use Rattle.walk.specs.Walk.{treeTokens};
 ghost use Rattle.reading.specs.Values.{valueIn};
 ghost use Rattle.reader.specs.Parts.{
-  FirstThat,
-  noted,
-  notedAt,
   PhandleIs,
   SupportIs,
   BitsAre,
   CellsAre,
-  refusalOf,
-  givenBits,
-  featureFrom,
   ReadsFeature,
   SomeNodes,
   ArePhandles,
@@ -42,32 +40,6 @@ ghost use Rattle.reader.specs.Parts.{
 
 // The highest phandle: all ones is none.
 const HIGHEST_PHANDLE: u32 = 0xfffffffe;
-
-// Above every cell.
-const NO_PHANDLE: u64 = 0x100000000;
-
-// The cells of who may use a feature, and of its supports.
-pub(crate) struct SupportCells {
-    pub(crate) usable_privilege: CellRead,
-    pub(crate) hv_support: CellRead,
-    pub(crate) os_support: CellRead,
-}
-
-// The cells of a feature's bit numbers.
-pub(crate) struct BitCells {
-    pub(crate) hfscr_bit_nr: CellRead,
-    pub(crate) fscr_bit_nr: CellRead,
-    pub(crate) hwcap_bit_nr: CellRead,
-}
-
-// The cells of a feature's properties; of its dependencies, how many.
-pub(crate) struct FeatureCells {
-    pub(crate) isa: CellRead,
-    pub(crate) support: SupportCells,
-    pub(crate) bits: BitCells,
-    pub(crate) phandle: CellRead,
-    pub(crate) dependencies: CellRead,
-}
 
 // A feature: its refusal, and the feature where there is none.
 pub(crate) struct FeatureRead {
@@ -80,50 +52,6 @@ pub(crate) struct FeaturesRead {
     pub(crate) refusal: Refusal,
     pub(crate) place: usize,
     pub(crate) features: [Feature; MOST_FEATURES],
-}
-
-pub(crate) fn no_feature() -> Feature
-    ensures { λ r. ⌜ r ≡ noFeature ⌝ }
-{
-    Feature {
-        offset: 0,
-        given: 0,
-        isa: 0,
-        usable_privilege: 0,
-        hv_support: 0,
-        os_support: 0,
-        hfscr_bit_nr: 0,
-        fscr_bit_nr: 0,
-        hwcap_bit_nr: 0,
-        phandle: 0,
-        dependencies: 0,
-    }
-}
-
-// What is noted of a feature's phandle: the phandle, or a number that no cell holds where there is none.
-fn phandle_noted(c: CellRead) -> u64
-    ensures { λ r. ⌜ r ≡ noted (c .given) (c .number) ⌝ }
-{
-    if c.given {
-        return c.number as u64;
-    }
-    NO_PHANDLE
-}
-
-// The first of the features below `n` that carries a phandle; `n` where none does.
-pub(crate) fn carrier_below(phandles: &[u64; MOST_FEATURES], n: usize, phandle: u32) -> usize
-    requires { ⌜ n ≤ mostFeatures ⌝ }
-    ensures { λ r. ⌜ FirstThat (notedAt (now (phandles .entry)) phandle) n r ⌝ }
-{
-    let nowhere = n;
-    let mut i: usize = 0;
-    while i < n {
-        if phandles[i] == phandle as u64 {
-            return i;
-        }
-        i += 1;
-    }
-    nowhere
 }
 
 // A phandle: neither 0 nor all ones, and not one that a feature below `n` carries.
@@ -199,56 +127,6 @@ fn read_cells(
     }
 }
 
-// The first refusal of a feature's properties, in document 01's order.
-fn refusal_of(c: FeatureCells) -> Refusal
-    ensures { λ r. ⌜ numberOf r ≡ refusalOf c ⌝ }
-{
-    let dependencies = first_of(c.dependencies, Refusal::None);
-    let phandle = first_of(c.phandle, dependencies);
-    let hwcap = first_of(c.bits.hwcap_bit_nr, phandle);
-    let fscr = first_of(c.bits.fscr_bit_nr, hwcap);
-    let hfscr = first_of(c.bits.hfscr_bit_nr, fscr);
-    let os = first_of(c.support.os_support, hfscr);
-    let hv = first_of(c.support.hv_support, os);
-    let usable = first_of(c.support.usable_privilege, hv);
-    first_of(c.isa, usable)
-}
-
-// The word `given`, a bit for each property in document 01's order, the first the lowest.
-fn given_word(c: FeatureCells) -> u32
-    ensures { λ r. ⌜ r ≡ givenBits c ⌝ }
-{
-    given_bit(c.isa, 1)
-        + given_bit(c.support.usable_privilege, 2)
-        + given_bit(c.support.hv_support, 4)
-        + given_bit(c.support.os_support, 8)
-        + given_bit(c.bits.hfscr_bit_nr, 16)
-        + given_bit(c.bits.fscr_bit_nr, 32)
-        + given_bit(c.bits.hwcap_bit_nr, 64)
-        + given_bit(c.phandle, 128)
-        + given_bit(c.dependencies, 256)
-}
-
-// The feature that its cells give.
-fn feature_of(at: usize, c: FeatureCells) -> Feature
-    requires { ⌜ at ≤ largestTree ⌝ }
-    ensures { λ r. ⌜ r ≡ featureFrom at c ⌝ }
-{
-    Feature {
-        offset: at as u32,
-        given: given_word(c),
-        isa: c.isa.number,
-        usable_privilege: c.support.usable_privilege.number,
-        hv_support: c.support.hv_support.number,
-        os_support: c.support.os_support.number,
-        hfscr_bit_nr: c.bits.hfscr_bit_nr.number,
-        fscr_bit_nr: c.bits.fscr_bit_nr.number,
-        hwcap_bit_nr: c.bits.hwcap_bit_nr.number,
-        phandle: c.phandle.number,
-        dependencies: c.dependencies.number,
-    }
-}
-
 // The feature at a place, the one at position `i`, by the phandles of those before it; its own is noted.
 fn read_feature(
     tree: &[u8],
@@ -264,7 +142,7 @@ fn read_feature(
     phandles[i] = phandle_noted(cells.phandle);
     FeatureRead {
         refusal: refusal_of(cells),
-        feature: feature_of(p.at, cells),
+        feature: feature_of(p.at as u32, cells),
     }
 }
 

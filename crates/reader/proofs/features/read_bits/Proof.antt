@@ -1,7 +1,7 @@
--- `reader::feature::read_bits` meets its contract. Assumes nothing.
+-- `reader::features::read_bits` meets its contract. Assumes nothing.
 use borrow.Author.Needs.{needs}
-use Rattle.reader.proofs.feature.read_bits.Statement.{statement}
-use Rattle.reader.proofs.feature.read_bits.Tie as tie
+use Rattle.reader.proofs.features.read_bits.Statement.{statement}
+use Rattle.reader.proofs.features.read_bits.Tie as tie
 
 slice-aggregate-read-bit : tie.Need-slice-aggregate-read-bit
 slice-aggregate-read-bit c = search needs

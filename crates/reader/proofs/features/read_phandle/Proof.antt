@@ -1,10 +1,11 @@
--- `reader::feature::read_phandle` meets its contract. Assumes nothing.
+-- `reader::features::read_phandle` meets its contract. Assumes nothing.
 use borrow.Author.Tests.{not-true, not-false}
+use Rattle.feature.proofs.CarrierLaws.{first-that}
 use Rattle.reader.proofs.PhandleReadLaws.{phandle-absent, phandle-zero, phandle-again, phandle-new}
 use native.Mathlib.Omega.{arith}
 use borrow.Author.Needs.{needs}
-use Rattle.reader.proofs.feature.read_phandle.Statement.{statement}
-use Rattle.reader.proofs.feature.read_phandle.Tie as tie
+use Rattle.reader.proofs.features.read_phandle.Statement.{statement}
+use Rattle.reader.proofs.features.read_phandle.Tie as tie
 
 slice-aggregate-read-cell : tie.Need-slice-aggregate-read-cell
 slice-aggregate-read-cell c = search needs
@@ -35,12 +36,12 @@ no-cell-requires-2 c κs = search needs
 returns-3 : tie.Need-returns-3
 returns-3 c =
     phandle-again (c .before .before .before .before .before .before .before .before .read-cell .ensures) (omega arith) (c .before .before .before .before .before .before .before .at-most .ensures) (not-false _ (c .before .before .before .before .before .if1 .left)) (c .before .before .before .if2 .left) _
-    (c .before .before .carrier-below .ensures) (c .before .if3 .taken) (c .no-cell2 .ensures)
+    (first-that (omega arith) (c .before .before .carrier-below .ensures)) (c .before .if3 .taken) (c .no-cell2 .ensures)
 
 returns-4 : tie.Need-returns-4
 returns-4 c =
     phandle-new (c .before .before .before .before .before .before .before .read-cell .ensures) (omega arith) (c .before .before .before .before .before .before .at-most .ensures) (not-false _ (c .before .before .before .before .if1 .left)) (c .before .before .if2 .left) _
-    (c .before .carrier-below .ensures) (c .if3 .left)
+    (first-that (omega arith) (c .before .carrier-below .ensures)) (c .if3 .left)
 
 pub read-phandle-spec : {M : Type 1} → statement M
 read-phandle-spec =

@@ -1,9 +1,9 @@
--- `reader::cell::first_of` meets its contract. Assumes nothing.
+-- `feature::first_of` meets its contract. Assumes nothing.
 use mathlib.Core.Path.{sym, _∙_}
-use Rattle.reader.proofs.PropertyLaws.{first-left, first-right}
+use Rattle.feature.proofs.RefusalLaws.{first-left, first-right}
 use borrow.Author.Needs.{needs}
-use Rattle.reader.proofs.cell.first_of.Statement.{statement}
-use Rattle.reader.proofs.cell.first_of.Tie as tie
+use Rattle.feature.proofs.first_of.Statement.{statement}
+use Rattle.feature.proofs.first_of.Tie as tie
 
 number-requires : tie.Need-number-requires
 number-requires c κs = search needs

@@ -1,7 +1,7 @@
--- `reader::cell::given_bit` meets its contract. Assumes nothing.
+-- `feature::given_bit` meets its contract. Assumes nothing.
 use native.Mathlib.Omega.{arith}
-use Rattle.reader.proofs.cell.given_bit.Statement.{statement}
-use Rattle.reader.proofs.cell.given_bit.Tie as tie
+use Rattle.feature.proofs.given_bit.Statement.{statement}
+use Rattle.feature.proofs.given_bit.Tie as tie
 
 returns : tie.Need-returns
 returns c = rw (c .if1 .taken) (omega arith, omega arith)

@@ -1,7 +1,7 @@
--- `reader::feature::refusal_of` meets its contract. Assumes nothing.
+-- `feature::refusal_of` meets its contract. Assumes nothing.
 use borrow.Author.Needs.{needs}
-use Rattle.reader.proofs.feature.refusal_of.Statement.{statement}
-use Rattle.reader.proofs.feature.refusal_of.Tie as tie
+use Rattle.feature.proofs.refusal_of.Statement.{statement}
+use Rattle.feature.proofs.refusal_of.Tie as tie
 
 first-of-requires : tie.Need-first-of-requires
 first-of-requires c κs = search needs

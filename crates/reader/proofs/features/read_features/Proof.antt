@@ -1,4 +1,4 @@
--- `reader::feature::read_features` meets its contract. Assumes nothing.
+-- `reader::features::read_features` meets its contract. Assumes nothing.
 use mathlib.Core.Path.{refl, sym, ap, _∙_}
 use mathlib.Core.List.{List}
 use Prim.Native.Nat.{_-_, _≤_}
@@ -10,8 +10,8 @@ use Rattle.reader.specs.Parts.{AtPlaces, SomeNodes}
 use Rattle.reader.proofs.RecordLaws.{ReadBelow, below-begins, place-low, below-more, below-refused, below-done}
 use borrow.Author.Needs.{needs}
 use native.Mathlib.Omega.{arith}
-use Rattle.reader.proofs.feature.read_features.Statement.{statement}
-use Rattle.reader.proofs.feature.read_features.Tie as tie
+use Rattle.reader.proofs.features.read_features.Statement.{statement}
+use Rattle.reader.proofs.features.read_features.Tie as tie
 
 abbrev Inv-loop : tie.InvT-loop
 Inv-loop tree b phandles₀ fs features₀ i₀ phandles features i =

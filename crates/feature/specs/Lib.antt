@@ -1,0 +1,2 @@
+pub mod Feature
+pub mod Phandles
