@@ -37,7 +37,7 @@ isPropertyCharacter b = among b (digitsAndLetters ++ bytes ",._+-" ++ bytes "?#"
 unfoldable pub hexValue : ℕ → ℕ
 hexValue b = min (placeOf b (bytes "0123456789abcdef")) (placeOf b (bytes "0123456789ABCDEF"))
 
--- the lower-case hex digit of a value below 16
+-- "written lower-case": the hex digit of a value below 16; zero for any other
 unfoldable pub hexDigit : ℕ → ℕ
 hexDigit v = getD (bytes "0123456789abcdef") v 0
 

@@ -1,6 +1,6 @@
 // Characters of names and of hexadecimal numbers, by one constant table.
 ghost use mathlib.Core.Path.{_≡_};
-ghost use Rattle.characters.specs.Characters.{entryOf, characterTable, isNodeEntry, isPropertyEntry, hexValue};
+ghost use Rattle.characters.specs.Characters.{entryOf, characterTable, isNodeEntry, isPropertyEntry, hexValue, hexDigit};
 
 // Document 01: "one constant table of 256 entries, one for each byte". An entry is the hex value (16: no
 // hex digit), and 32 for a node name's character, and 64 for a property name's.
@@ -296,4 +296,18 @@ pub fn hex_value(b: u8) -> u8
     ensures { λ r. ⌜ r ≡ hexValue b ⌝ }
 {
     entry(b) % 32
+}
+
+// The lower-case hex digit of a value below 16; zero for any other.
+pub fn hex_digit(value: u64) -> u8
+    ensures { λ r. ⌜ r ≡ hexDigit value ⌝ }
+{
+    if 15 < value {
+        return 0;
+    }
+    if value < 10 {
+        (48 + value) as u8
+    } else {
+        (87 + value) as u8
+    }
 }

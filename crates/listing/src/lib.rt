@@ -9,7 +9,6 @@ ghost use mathlib.Core.Path.{_≡_};
 ghost use mathlib.Core.List.{_++_};
 ghost use Prim.Native.Nat.{_+_, _<_, _≤_};
 ghost use lib.ListN.{length as length-of};
-ghost use Rattle.characters.specs.Characters.{hexDigit};
 ghost use Rattle.refusal.specs.Refusal.{refuse, numberOf};
 ghost use Rattle.record.specs.Record.{mostFeatures};
 ghost use Rattle.listing.specs.Digits.{lastDigits, decimalPlaces, decimal, hexWord};
@@ -69,18 +68,6 @@ fn put(line: &mut [u8], at: usize, text: &[u8]) -> usize
     at + i
 }
 
-// The lower-case digit of a value below 16.
-fn digit(value: u64) -> u8
-    requires { ⌜ value < 16 ⌝ }
-    ensures { λ r. ⌜ r ≡ hexDigit value ⌝ }
-{
-    if value < 10 {
-        (48 + value) as u8
-    } else {
-        (87 + value) as u8
-    }
-}
-
 // Puts the last digits of a number in a base up to sixteen: a round a digit.
 fn put_digits(line: &mut [u8], at: usize, base: u64, many: usize, number: u64) -> usize
     requires { ⌜ (1 ≤ base) × (base ≤ 16) × (at + many ≤ length-of (now line)) ⌝ }
@@ -91,7 +78,7 @@ fn put_digits(line: &mut [u8], at: usize, base: u64, many: usize, number: u64) -
     let mut place = end;
     while at < place {
         place -= 1;
-        line[place] = digit(rest % base);
+        line[place] = characters::hex_digit(rest % base);
         rest = rest / base;
     }
     end

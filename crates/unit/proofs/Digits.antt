@@ -9,8 +9,6 @@ use lib.Dec.{ltb}
 use lib.ListN.{length, length-append, set}
 use lib.Pow.{pow-add}
 use native.Mathlib.Decide.{decLt}
-use Rattle.characters.specs.Characters.{run, hexDigit as hexDigitOf}
-use Rattle.characters.proofs.Table.{agree}
 use Rattle.cells.specs.Buffer.{written}
 use Rattle.cells.proofs.Buffer.{written-none, written-before, length-written}
 use Rattle.unit.specs.Hex.{hexDigit, digitsOf, hexText, digitCount, afterHex}
@@ -81,18 +79,6 @@ count-least (suc d) n h = go (decLt 0 (n / 16)) (count-least d (n / 16))
 
 pub count-within : (n : ℕ) → n < 2 ^ 64 → digitCount n ≤ 16
 count-within n h = count-least 15 n h
-
--- the two runs of digit characters
-pub digit-low : (v : ℕ) → v < 10 → 48 + v ≡ hexDigit v
-unfolding run hexDigitOf
-digit-low v h = agree (λ (k : ℕ). 48 + k) hexDigit 10 refl v h
-
-pub digit-high : (v : ℕ) → 10 ≤ v → v < 16 → 87 + v ≡ hexDigit v
-unfolding run hexDigitOf
-digit-high v l h =
-    let e : 87 + v ≡ 97 + (v - 10) = omega arith in
-    let f : 10 + (v - 10) ≡ v = omega arith in
-    e ∙ agree (λ (k : ℕ). 97 + k) (λ (k : ℕ). hexDigit (10 + k)) 6 refl (v - 10) (omega arith) ∙ ap hexDigit f
 
 -- digits are put in from the last to the first: those from `place` on stand, and those before it are in front
 pub record Writing (number at : ℕ) (old buffer : List ℕ) (rest place : ℕ) : Type 0 where

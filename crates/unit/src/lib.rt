@@ -3,7 +3,7 @@ use refusal::Refusal;
 ghost use mathlib.Core.Path.{_≡_};
 ghost use Prim.Native.Nat.{_+_, _<_, _≤_};
 ghost use lib.ListN.{length};
-ghost use Rattle.unit.specs.Hex.{hexText, digitCount, hexDigit, readHex, writeHex, afterHex};
+ghost use Rattle.unit.specs.Hex.{digitCount, readHex, writeHex, afterHex};
 ghost use Rattle.unit.specs.Unit.{readUnit, writeUnit, afterUnit, hexOutcome, unitOutcome, lengthOutcome};
 
 // The most characters that a number's text may have.
@@ -103,18 +103,6 @@ pub fn digit_count(number: u64) -> usize
     count
 }
 
-// The lower-case digit of a value below 16.
-fn hex_digit(value: u64) -> u8
-    requires { ⌜ value < 16 ⌝ }
-    ensures { λ r. ⌜ r ≡ hexDigit value ⌝ }
-{
-    if value < 10 {
-        (48 + value) as u8
-    } else {
-        (87 + value) as u8
-    }
-}
-
 // Puts the shortest lower-case text of a number into a lent buffer, from place `at` on. Refusal: 18.
 pub fn write_hex(number: u64, buffer: &mut [u8], at: usize) -> TextWritten
     ensures { λ r. ⌜ lengthOutcome r ≡ writeHex number at (length (now (buffer .entry))) ⌝ }
@@ -137,7 +125,7 @@ pub fn write_hex(number: u64, buffer: &mut [u8], at: usize) -> TextWritten
     let mut place = at + count;
     while at < place {
         place -= 1;
-        buffer[place] = hex_digit(rest % 16);
+        buffer[place] = characters::hex_digit(rest % 16);
         rest = rest / 16;
     }
     TextWritten {

@@ -1,7 +1,6 @@
 -- `listing::put_digits` meets its contract. The loop's invariant is `Spelling`. Assumes nothing.
 use borrow.Author.Needs.{needs}
 use native.Mathlib.Omega.{arith}
-use native.Mathlib.Nat.{mod-lt}
 use Rattle.listing.proofs.DigitLaws.{Spelling, spell-begins, spell-length, spell-low, spell-more, spell-ends}
 use Rattle.listing.proofs.put_digits.Statement.{statement}
 use Rattle.listing.proofs.put_digits.Tie as tie
@@ -21,11 +20,11 @@ loop-holds c = spell-begins _ _ _ _ _ (omega arith)
 sub-place : tie.Need-sub-place Inv-loop μ-loop
 sub-place c = search needs
 
-rem-digit : tie.Need-rem-digit Inv-loop μ-loop
-rem-digit c = search needs
+rem-hex-digit : tie.Need-rem-hex-digit Inv-loop μ-loop
+rem-hex-digit c = search needs
 
-digit-requires : tie.Need-digit-requires Inv-loop μ-loop
-digit-requires c κs = omega (arith, mod-lt (c .before .loop .rest) (c .before .before .before .pre .0))
+hex-digit-requires : tie.Need-hex-digit-requires Inv-loop μ-loop
+hex-digit-requires c κs = search needs
 
 slice-write-line : tie.Need-slice-write-line Inv-loop μ-loop
 slice-write-line c = let w = c .before .before .loop .inv in omega (arith, spell-low w, spell-length w)
@@ -37,7 +36,7 @@ loop-less : tie.Need-loop-less Inv-loop μ-loop
 loop-less c = omega arith
 
 loop-again : tie.Need-loop-again Inv-loop μ-loop
-loop-again c = spell-more (c .before .before .loop .inv) (c .digit .ensures) (omega arith)
+loop-again c = spell-more (c .before .before .loop .inv) (c .hex-digit .ensures) (omega arith)
 
 same-length : tie.Need-same-length Inv-loop μ-loop
 same-length c = spell-length (c .before .loop .inv)
@@ -54,8 +53,8 @@ put-digits-spec =
     add-end
     loop-holds
     sub-place
-    rem-digit
-    digit-requires
+    rem-hex-digit
+    hex-digit-requires
     slice-write-line
     div-rest
     loop-less
