@@ -13,11 +13,12 @@ use Rattle.cells.proofs.Rows.{padded-more}
 use Rattle.refusal.specs.Refusal.{Fault, fault}
 use Rattle.refusal.specs.Checks.{Check, check}
 use Rattle.record.specs.Record.{slotCount}
-use Rattle.reading.specs.Nodes.{Node}
-use Rattle.reading.specs.Values.{Value, missing, cellsOf}
+use Rattle.nodes.specs.Nodes.{Node}
+use Rattle.nodes.specs.Values.{Value, missing, cellsOf}
 use Rattle.reading.specs.Dependencies.{Carrier, nowhere, position, carrier, isSomewhere, slotOf, cellChecks}
 use Rattle.reading.specs.Ends.{AllHold, FirstFailing}
-use Rattle.reader.specs.Parts.{Lies, FirstThat, notedAt, ArePhandles, CellsLie, Resolves, ResolvesCells}
+use Rattle.nodes.specs.Parts.{Lies}
+use Rattle.reader.specs.Parts.{FirstThat, notedAt, ArePhandles, CellsLie, Resolves, ResolvesCells}
 use Rattle.reading.proofs.CheckLaws.{hold-both, fail-left, fail-right, fail-here}
 use Rattle.reader.proofs.CellPlaceLaws.{cells-lie}
 use Rattle.reader.proofs.PropertyLaws.{count as count-of}

@@ -12,12 +12,13 @@ use Rattle.refusal.specs.declared.Refusal.{Refusal}
 use Rattle.refusal.specs.Refusal.{numberOf}
 use Rattle.record.specs.declared.Feature.{Feature}
 use Rattle.reader.specs.declared.cell.CellRead.{CellRead}
-use Rattle.reader.specs.declared.nodes.NodePlace.{NodePlace}
+use Rattle.nodes.specs.declared.NodePlace.{NodePlace}
 use Rattle.reader.specs.declared.feature.FeatureCells.{FeatureCells}
-use Rattle.reading.specs.Nodes.{Node}
-use Rattle.reading.specs.Values.{Value, lowBit}
+use Rattle.nodes.specs.Nodes.{Node}
+use Rattle.nodes.specs.Values.{Value, lowBit}
 use Rattle.reading.specs.Features.{bitChecks, featureChecks, givenWord, featureOf}
-use Rattle.reader.specs.Parts.{IsNode, Holds, CellIs, Judged, noted, notedOf, ArePhandles, BitIs, CellsAre, refusalOf, featureFrom, ReadsFeature}
+use Rattle.nodes.specs.Parts.{IsNode}
+use Rattle.reader.specs.Parts.{Holds, CellIs, Judged, noted, notedOf, ArePhandles, BitIs, CellsAre, refusalOf, featureFrom, ReadsFeature}
 use Rattle.reader.proofs.JudgedLaws.{judged-both}
 use Rattle.reader.proofs.PropertyLaws.{first-none, first-zero, required-judged, optional-judged}
 

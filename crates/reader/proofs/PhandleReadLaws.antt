@@ -13,10 +13,9 @@ use Rattle.positions.proofs.BelowLaws.{no-way}
 use Rattle.refusal.specs.declared.Refusal.the-variants.{OutOfRange, Repeated}
 use Rattle.refusal.specs.Refusal.{numberOf}
 use Rattle.reader.specs.declared.cell.CellRead.{CellRead}
-use Rattle.reading.specs.Nodes.{Node}
-use Rattle.reading.specs.Values.{Value, missing, value, isGiven, number}
+use Rattle.nodes.specs.Nodes.{Node, nodeAt}
+use Rattle.nodes.specs.Values.{Value, missing, value, isGiven, number}
 use Rattle.reading.specs.Features.{some, carries, isPhandle, isRepeated, phandleChecks}
-use Rattle.reading.specs.Reading.{nodeAt}
 use Rattle.reader.specs.Parts.{noCell, cellFault, Holds, CellIs, atMost, Judged, FirstThat, notedAt, ArePhandles, PhandleIs, firstOf}
 use Rattle.reader.proofs.JudgedLaws.{judged-both}
 use Rattle.reading.proofs.Carriers.{some-none}

@@ -10,7 +10,7 @@ use Rattle.refusal.specs.declared.Refusal.the-variants.{OutOfRange}
 use Rattle.refusal.specs.Refusal.{numberOf}
 use Rattle.record.specs.Record.{highestBit}
 use Rattle.reader.specs.declared.cell.CellRead.{CellRead}
-use Rattle.reading.specs.Values.{Value, number}
+use Rattle.nodes.specs.Values.{Value, number}
 use Rattle.reader.specs.Parts.{noCell, cellFault, Holds, CellIs, atMost, BitIs, firstOf}
 use Rattle.reader.proofs.JudgedLaws.{judged-both}
 use Rattle.reader.proofs.PropertyLaws.{first-left, judged-pick, given-judged}

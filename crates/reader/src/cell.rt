@@ -1,7 +1,7 @@
 // Properties of one cell.
-use crate::nodes::Held;
-use crate::nodes::value_of;
 use header::Blocks;
+use nodes::Held;
+use nodes::value_of;
 use record::HIGHEST_BIT;
 use record::MOST_DEPENDENCIES;
 use refusal::Refusal;
@@ -13,7 +13,7 @@ ghost use Rattle.refusal.specs.Refusal.{numberOf};
 ghost use Rattle.positions.specs.Below.{oneIf};
 ghost use Rattle.positions.specs.Bits.{bit as bit-of};
 ghost use Rattle.walk.specs.Walk.{treeTokens};
-ghost use Rattle.reading.specs.Values.{valueIn};
+ghost use Rattle.nodes.specs.Values.{valueIn};
 ghost use Rattle.reader.specs.Parts.{noCell, CellIs, atMost, CountIs, BitIs, firstOf};
 
 // A property of one cell: its refusal; where there is none, whether it is given, and its number, zero where it is not.

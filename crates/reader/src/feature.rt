@@ -7,9 +7,9 @@ use crate::cell::no_cell;
 use crate::cell::read_bit;
 use crate::cell::read_cell;
 use crate::cell::read_count;
-use crate::nodes::Features;
-use crate::nodes::NodePlace;
 use header::Blocks;
+use nodes::ChildPlaces;
+use nodes::NodePlace;
 use record::Feature;
 use record::MOST_FEATURES;
 use refusal::Refusal;
@@ -22,7 +22,7 @@ ghost use Rattle.refusal.specs.Refusal.{numberOf};
 ghost use Rattle.header.specs.Header.{largestTree};
 ghost use Rattle.record.specs.Record.{mostFeatures, noFeature};
 ghost use Rattle.walk.specs.Walk.{treeTokens};
-ghost use Rattle.reading.specs.Values.{valueIn};
+ghost use Rattle.nodes.specs.Values.{valueIn};
 ghost use Rattle.reader.specs.Parts.{
   FirstThat,
   noted,
@@ -272,7 +272,7 @@ fn read_feature(
 pub(crate) fn read_features(
     tree: &[u8],
     b: Blocks,
-    fs: Features,
+    fs: ChildPlaces,
     phandles: &mut [u64; MOST_FEATURES],
 ) -> FeaturesRead
     requires { ⌜ (b .end ≤ length-of (now tree)) × SomeNodes (now tree) b fs × ArePhandles (now phandles) [] ⌝ }
@@ -281,7 +281,7 @@ pub(crate) fn read_features(
     let mut features = [no_feature(); MOST_FEATURES];
     let mut i: usize = 0;
     while i < fs.count {
-        let p = fs.nodes[i];
+        let p = fs.places[i];
         let read = read_feature(tree, b, p, &mut *phandles, i);
         let refusal = read.refusal;
         if refusal::number(refusal) != 0 {
