@@ -24,7 +24,8 @@ use Rattle.record.specs.declared.Record.{Record}
 use Rattle.record.specs.Record.{mostFeatures, noFeatures}
 use Rattle.form.specs.WellFormed.{wellFormed}
 use Rattle.reading.specs.Features.{carries}
-use Rattle.reading.specs.Reading.{nodeAt, readRecord}
+use Rattle.nodes.specs.Nodes.{nodeAt}
+use Rattle.reading.specs.Reading.{readRecord}
 use Rattle.reading.specs.Accepted.{featuresOf, dependenciesOf}
 use Rattle.reading.specs.Resolved.{Resolved}
 use Rattle.permitted.specs.declared.Grants.{Grants}

@@ -15,7 +15,7 @@ use Rattle.positions.proofs.BelowLaws.{count-bound}
 use Rattle.record.specs.declared.Record.{Record}
 use Rattle.walk.specs.Containers.{containerName}
 use Rattle.walk.specs.Faults.{allTokens}
-use Rattle.reading.specs.Values.{Value, missing, value, valueOf, number}
+use Rattle.nodes.specs.Values.{Value, missing, value, valueOf, number}
 use Rattle.reading.specs.Reading.{readRecord}
 use Rattle.reading.specs.Accepted.{containerOf}
 use Rattle.reading.proofs.Ends.{read-number, read-place}

@@ -18,13 +18,12 @@ use Rattle.walk.specs.Containers.{containerName}
 use Rattle.walk.specs.Faults.{allTokens}
 use Rattle.walk.proofs.Grammar.{accepts-trees}
 use Rattle.walk.proofs.CheckEnds.{checks-trees}
-use Rattle.reading.specs.Nodes.{Node}
-use Rattle.reading.specs.Reading.{nodeAt}
+use Rattle.nodes.specs.Nodes.{Node, nodeAt}
 use Rattle.reading.specs.Accepted.{featuresOf, containerOf}
 use Rattle.reading.specs.Resolved.{Holds}
 use Rattle.reading.proofs.Ends.{read-accepted}
 use Rattle.reading.proofs.Dependencies.{read-holds}
-use Rattle.reader.proofs.BehindLaws.{name-ends}
+use Rattle.nodes.proofs.BehindLaws.{name-ends}
 use Rattle.listing.specs.Listing.{charactersOf, nameOf}
 use Rattle.listing.specs.Parts.{stringAt, nameIn, IsRead}
 use Rattle.listing.proofs.TokenLaws.{all-behind, child-begin, Named, tokens-named, Good, tokens-good}

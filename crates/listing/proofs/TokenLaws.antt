@@ -21,9 +21,8 @@ use Rattle.walk.specs.Final.{isFinal, EndsFinal, last, more}
 use Rattle.walk.specs.Faults.{allTokens}
 use Rattle.walk.proofs.StepCases.{Does, skips as passes, enters, takes, nests, leaves, accepts, refuses, step-does, verdictAfter, walk-next}
 use Rattle.walk.proofs.Complete.{tokens-end, on-not-final}
-use Rattle.reading.specs.Nodes.{Node, node, nodesNamed, childrenAt}
-use Rattle.reading.specs.Values.{value as given, valueIn}
-use Rattle.reading.specs.Reading.{nodeAt}
+use Rattle.nodes.specs.Nodes.{Node, node, nodeAt, nodesNamed, childrenAt}
+use Rattle.nodes.specs.Values.{value as given, valueIn}
 
 module _ (P : Token → Type 0) where
   -- every one of some tokens

@@ -13,7 +13,8 @@ use Rattle.cells.specs.Rows.{each}
 use Rattle.cells.specs.Strings.{Text, ended, unended}
 use Rattle.positions.specs.Sets.{setOf, noMembers, memberCount}
 use Rattle.record.specs.declared.Record.{Record}
-use Rattle.reading.specs.Reading.{nodeAt, readRecord}
+use Rattle.nodes.specs.Nodes.{nodeAt}
+use Rattle.reading.specs.Reading.{readRecord}
 use Rattle.reading.specs.Accepted.{featuresOf}
 use Rattle.permitted.specs.declared.Grants.{Grants}
 use Rattle.permitted.specs.Permitted.{permittedSet}

@@ -9,8 +9,9 @@ use lib.Seq.{getD-take, getD-drop, getD-at}
 use Rattle.cells.specs.Cells.{cellAt}
 use Rattle.cells.specs.Rows.{each}
 use Rattle.cells.proofs.Rows.{length-each}
-use Rattle.reading.specs.Values.{Value, cellsOf}
-use Rattle.reader.specs.Parts.{Lies, CellsLie}
+use Rattle.nodes.specs.Values.{Value, cellsOf}
+use Rattle.nodes.specs.Parts.{Lies}
+use Rattle.reader.specs.Parts.{CellsLie}
 
 -- a cell of a part of a tree
 cell-inside : (tree : List ℕ) (from size at : ℕ) → at + 4 ≤ size → cellAt tree (from + at) ≡ cellAt (take size (drop from tree)) at

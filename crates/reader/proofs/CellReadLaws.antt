@@ -11,8 +11,9 @@ use lib.ListN.{length, take, drop, getD, length-take, length-drop}
 use lib.Seq.{getD-take, getD-drop}
 use Rattle.cells.specs.Cells.{cellAt}
 use Rattle.refusal.specs.declared.Refusal.the-variants.{None, PropertyForm}
-use Rattle.reading.specs.Values.{Value, missing}
-use Rattle.reader.specs.Parts.{Lies, noCell, CellIs}
+use Rattle.nodes.specs.Values.{Value, missing}
+use Rattle.nodes.specs.Parts.{Lies}
+use Rattle.reader.specs.Parts.{noCell, CellIs}
 
 -- the first cell of a part of a tree
 cell-part : (tree : List ℕ) (from size : ℕ) → 4 ≤ size → cellAt (take size (drop from tree)) 0 ≡ cellAt tree from

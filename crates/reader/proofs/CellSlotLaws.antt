@@ -13,13 +13,14 @@ use Rattle.cells.proofs.Rows.{padded-more}
 use Rattle.refusal.specs.Refusal.{Fault, fault}
 use Rattle.refusal.specs.Checks.{Check, check}
 use Rattle.record.specs.Record.{slotCount}
-use Rattle.reading.specs.Nodes.{Node}
-use Rattle.reading.specs.Values.{Value, missing, cellsOf}
+use Rattle.nodes.specs.Nodes.{Node}
+use Rattle.nodes.specs.Values.{Value, missing, cellsOf}
 use Rattle.reading.specs.Dependencies.{Carrier, nowhere, position, carrier, isSomewhere, slotOf, cellChecks}
 use Rattle.reading.specs.Ends.{AllHold, FirstFailing}
 use Rattle.feature.specs.Phandles.{notedAt}
 use Rattle.feature.proofs.CarrierLaws.{FirstThat}
-use Rattle.reader.specs.Parts.{Lies, ArePhandles, CellsLie, Resolves, ResolvesCells}
+use Rattle.nodes.specs.Parts.{Lies}
+use Rattle.reader.specs.Parts.{ArePhandles, CellsLie, Resolves, ResolvesCells}
 use Rattle.reading.proofs.CheckLaws.{hold-both, fail-left, fail-right, fail-here}
 use Rattle.reader.proofs.CellPlaceLaws.{cells-lie}
 use Rattle.reader.proofs.PropertyLaws.{count as count-of}

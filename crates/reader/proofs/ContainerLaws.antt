@@ -17,12 +17,13 @@ use Rattle.refusal.specs.Checks.{Check, check}
 use Rattle.tokens.specs.Steps.{pick}
 use Rattle.tokens.specs.Tokens.{Token}
 use Rattle.feature.specs.declared.CellRead.{CellRead}
-use Rattle.reading.specs.Nodes.{Node}
-use Rattle.reading.specs.Values.{Value, missing, value, valueIn, valueOf, isText, isCell}
+use Rattle.nodes.specs.Nodes.{Node}
+use Rattle.nodes.specs.Values.{Value, missing, value, valueIn, valueOf, isText, isCell}
 use Rattle.reading.specs.Features.{requiredChecks}
 use Rattle.reading.specs.Reading.{containerProperties}
 use Rattle.reading.specs.Ends.{FirstFailing}
-use Rattle.reader.specs.Parts.{Lies, cellFault, noCell, CellIs, Judged, holdsText, isContainer, ContainerIs}
+use Rattle.nodes.specs.Parts.{Lies}
+use Rattle.reader.specs.Parts.{cellFault, noCell, CellIs, Judged, holdsText, isContainer, ContainerIs}
 use Rattle.reading.proofs.CheckLaws.{fail-left, fail-right, fail-here}
 use Rattle.reader.proofs.JudgedLaws.{judged-check}
 

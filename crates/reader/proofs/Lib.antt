@@ -1,8 +1,3 @@
-pub mod ValueLaws
-pub mod BehindLaws
-pub mod MoveLaws
-pub mod GatherLaws
-pub mod SearchLaws
 pub mod CellReadLaws
 pub mod RangeLaws
 pub mod JudgedLaws
@@ -14,7 +9,6 @@ pub mod CellPlaceLaws
 pub mod CellSlotLaws
 pub mod ResolveLaws
 pub mod RecordLaws
-pub mod Located
 pub mod Answers
 pub mod ContainerLaws
 pub mod RepeatLaws

@@ -1,35 +1,22 @@
 -- What is noted of the features' phandles. Assumes nothing.
 use mathlib.Core.Path.{_≡_, refl, sym, ap, _∙_}
 use mathlib.Core.Bool.{Bool, true, false}
-use mathlib.Core.List.{List, [], _∷_, map}
-use Prim.Native.Nat.{ℕ, zero, suc, _+_, _-_, _<_, _≤_}
+use mathlib.Core.List.{List, [], _∷_}
+use Prim.Native.Nat.{ℕ, zero, suc, _+_, _<_, _≤_}
 use native.Mathlib.Omega.{arith}
 use borrow.Author.Tests.{ne-eqb}
 use lib.Dec.{eqb}
-use lib.ListN.{length, getD, replicate, length-map, List·getD-append}
-use Rattle.cells.specs.Rows.{padded}
+use lib.ListN.{length, getD}
 use Rattle.tokens.specs.Steps.{pick}
 use Rattle.record.specs.Record.{mostFeatures}
-use Rattle.reading.specs.Nodes.{Node}
-use Rattle.reading.specs.Values.{Value, missing, value, valueOf, isGiven, number}
+use Rattle.nodes.specs.Nodes.{Node, nodeAt}
+use Rattle.nodes.specs.Values.{Value, missing, value, valueOf, isGiven, number}
 use Rattle.reading.specs.Features.{isCarried, carries}
 use Rattle.reading.specs.Dependencies.{Carrier, nowhere, position, carrierFrom, carrier}
-use Rattle.reading.specs.Reading.{nodeAt}
+use Rattle.nodes.proofs.RowLaws.{row-node}
 use Rattle.feature.specs.Phandles.{noted, notedAt}
 use Rattle.feature.proofs.CarrierLaws.{FirstThat}
 use Rattle.reader.specs.Parts.{notedOf, ArePhandles}
-
--- what a row has of the node at an index
-map-at : {A : Type 0} (f : Node → A) (z : A) (ns : List Node) (i : ℕ) → i < length ns → getD (map f ns) i z ≡ f (nodeAt ns i)
-unfolding nodeAt
-map-at f z [] i h = absurd (omega arith)
-map-at f z (n ∷ ns) zero h = refl
-map-at f z (n ∷ ns) (suc i) h = map-at f z ns i (omega arith)
-
-row-at : {A : Type 0} (m : ℕ) (z : A) (f : Node → A) (ns : List Node) (i : ℕ) → i < length ns → getD (padded m z (map f ns)) i z ≡ f (nodeAt ns i)
-row-at m z f ns i h =
-    let l : i < length (map f ns) = omega (arith, length-map ns f) in
-    List·getD-append (map f ns) (replicate (m - length (map f ns)) z) z i l ∙ map-at f z ns i h
 
 noted-value : (v : Value) (p : ℕ) → p < 0x100000000 → eqb (noted (isGiven v) (number v)) p ≡ isCarried p v
 noted-value missing p h = ne-eqb 0x100000000 p (λ e. absurd (omega arith))
@@ -41,7 +28,7 @@ pub noted-carries : (phandles : List ℕ) (nodes : List Node) → ArePhandles ph
 unfolding notedAt
 noted-carries phandles nodes h p l i k =
     ap (λ (xs : List ℕ). eqb (getD xs i 0) p) h
-    ∙ ap (λ (x : ℕ). eqb x p) (row-at mostFeatures 0 notedOf nodes i k)
+    ∙ ap (λ (x : ℕ). eqb x p) (row-node notedOf mostFeatures 0 nodes i k)
     ∙ noted-value (valueOf (nodeAt nodes i) "phandle") p l
 
 -- the carrier is the first that carries the phandle

@@ -17,10 +17,9 @@ use Rattle.feature.specs.Feature.{firstOf}
 use Rattle.feature.specs.Phandles.{notedAt}
 use Rattle.feature.proofs.RefusalLaws.{first-zero}
 use Rattle.feature.proofs.CarrierLaws.{FirstThat}
-use Rattle.reading.specs.Nodes.{Node}
-use Rattle.reading.specs.Values.{Value, missing, value, isGiven, number}
+use Rattle.nodes.specs.Nodes.{Node, nodeAt}
+use Rattle.nodes.specs.Values.{Value, missing, value, isGiven, number}
 use Rattle.reading.specs.Features.{some, carries, isPhandle, isRepeated, phandleChecks}
-use Rattle.reading.specs.Reading.{nodeAt}
 use Rattle.reader.specs.Parts.{noCell, cellFault, Holds, CellIs, atMost, Judged, ArePhandles, PhandleIs}
 use Rattle.reader.proofs.JudgedLaws.{judged-both}
 use Rattle.reading.proofs.Carriers.{some-none}

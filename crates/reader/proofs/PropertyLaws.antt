@@ -16,9 +16,10 @@ use Rattle.refusal.specs.Checks.{check}
 use Rattle.record.specs.Record.{mostDependencies}
 use Rattle.feature.specs.declared.CellRead.{CellRead}
 use Rattle.feature.specs.Feature.{firstOf}
-use Rattle.reading.specs.Values.{Value, missing, value, isGiven, isCellOrMissing, isCells, cellsOf}
+use Rattle.nodes.specs.Values.{Value, missing, value, isGiven, isCellOrMissing, isCells, cellsOf}
+use Rattle.nodes.specs.Parts.{Lies}
 use Rattle.reading.specs.Features.{requiredChecks, optionalChecks}
-use Rattle.reader.specs.Parts.{Lies, noCell, cellFault, CellIs, Judged, CountIs}
+use Rattle.reader.specs.Parts.{noCell, cellFault, CellIs, Judged, CountIs}
 use Rattle.reader.proofs.JudgedLaws.{judged-check, judged-both}
 use Rattle.reader.proofs.CellReadLaws.{long}
 

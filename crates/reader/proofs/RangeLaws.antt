@@ -12,7 +12,7 @@ use Rattle.record.specs.Record.{highestBit}
 use Rattle.feature.specs.declared.CellRead.{CellRead}
 use Rattle.feature.specs.Feature.{firstOf}
 use Rattle.feature.proofs.RefusalLaws.{first-left}
-use Rattle.reading.specs.Values.{Value, number}
+use Rattle.nodes.specs.Values.{Value, number}
 use Rattle.reader.specs.Parts.{noCell, cellFault, Holds, CellIs, atMost, BitIs}
 use Rattle.reader.proofs.JudgedLaws.{judged-both}
 use Rattle.reader.proofs.PropertyLaws.{judged-pick, given-judged}

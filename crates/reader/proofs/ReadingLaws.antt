@@ -15,17 +15,19 @@ use Rattle.record.specs.Record.{noFeatures}
 use Rattle.walk.specs.declared.Containers.{Containers}
 use Rattle.walk.specs.Containers.{firstTwo}
 use Rattle.feature.specs.declared.CellRead.{CellRead}
-use Rattle.reading.specs.Nodes.{Node, children}
+use Rattle.nodes.specs.Nodes.{Node, nodeAt, children}
 use Rattle.reading.specs.Features.{inOrder, nameChecks, featureChecks}
 use Rattle.reading.specs.Dependencies.{carrierChecks}
-use Rattle.reading.specs.Reading.{nodeAt, containersOf, containerChecks, containerProperties, countChecks, readChecks, recordOf, readAccepted}
+use Rattle.reading.specs.Reading.{containersOf, containerChecks, containerProperties, countChecks, readChecks, recordOf, readAccepted}
 use Rattle.reading.specs.Ends.{AllHold, FirstFailing}
-use Rattle.reader.specs.Parts.{behindOf, Alike, ContainerIs, ReadsContainer, Opens, readChildren}
+use Rattle.nodes.specs.Places.{behindOf}
+use Rattle.nodes.specs.Parts.{Alike}
+use Rattle.reader.specs.Parts.{ContainerIs, ReadsContainer, Opens, readChildren}
 use Rattle.walk.specs.Walk.{nameIn, treeTokens}
 use Rattle.walk.specs.Containers.{containerName}
 use Rattle.reading.proofs.Places.{node-within, children-within, containers-within}
 use Rattle.reading.proofs.Containers.{offsets}
-use Rattle.reader.proofs.Located.{Located, containers-located}
+use Rattle.nodes.proofs.Located.{Located, named-located}
 use Rattle.reading.proofs.CheckLaws.{fail-left, fail-right, fail-here, hold-skips, fail-decides}
 use Rattle.reading.proofs.WalkedLaws.{Walked}
 
@@ -99,7 +101,7 @@ module _ {tree : List ℕ} {b : Blocks} {found : Containers} (w : Walked tree b 
     one-holds = (le-leb 1 (length (all tree b)) (omega (arith, once)), (le-leb (length (all tree b)) 1 (omega (arith, once)), tt))
 
     located : Located tree b (container tree b)
-    located = containers-located tree b 0 (omega (arith, once))
+    located = named-located tree b containerName (b .start) 0 (omega (arith, once))
 
     pub first-within : (found .first < b .end) × (b .end ≤ largestTree)
     first-within = (omega (arith, located .place, first-at), omega (arith, w .lies .end, w .lies .small))

@@ -9,24 +9,25 @@ use borrow.Author.Tests.{leb-true}
 use lib.ListN.{length, getD, take, set}
 use lib.Seq.{length-take-le, take-all}
 use Rattle.cells.specs.Rows.{padded}
-use Rattle.cells.proofs.Rows.{padded-more}
 use Rattle.refusal.specs.Refusal.{numberOf, Placed, placed, refuseAt, fault}
 use Rattle.header.specs.declared.Blocks.{Blocks}
 use Rattle.header.specs.Header.{largestTree}
 use Rattle.record.specs.declared.Record.{Record}
 use Rattle.record.specs.declared.Feature.{Feature}
 use Rattle.record.specs.Record.{mostFeatures, mostDependencies, noFeature, noFeatures}
-use Rattle.reader.specs.declared.nodes.Features.{Features}
+use Rattle.nodes.specs.declared.ChildPlaces.{ChildPlaces}
 use Rattle.reader.specs.declared.features.FeatureRead.{FeatureRead}
 use Rattle.reader.specs.declared.features.FeaturesRead.{FeaturesRead}
 use Rattle.reader.specs.declared.dependencies.Finding.{Finding}
-use Rattle.reading.specs.Nodes.{Node, children}
-use Rattle.reading.specs.Values.{valueOf, cellsOf}
+use Rattle.nodes.specs.Nodes.{Node, nodeAt, children}
+use Rattle.nodes.specs.Values.{valueOf, cellsOf}
 use Rattle.reading.specs.Features.{inOrder, featureChecks, featureOf}
 use Rattle.reading.specs.Dependencies.{carrierChecks}
-use Rattle.reading.specs.Reading.{nodeAt, recordOf}
+use Rattle.reading.specs.Reading.{recordOf}
 use Rattle.reading.specs.Ends.{AllHold}
-use Rattle.reader.specs.Parts.{noPlace, notedOf, ArePhandles, AreFeatures, FeatureIs, ReadsFeature, AtPlaces, FeaturesAre, Known, SlotsAre, Contains, readFeatures}
+use Rattle.nodes.specs.Places.{noPlace}
+use Rattle.reader.specs.Parts.{notedOf, ArePhandles, AreFeatures, FeatureIs, ReadsFeature, AtPlaces, FeaturesAre, Known, SlotsAre, Contains, readFeatures}
+use Rattle.nodes.proofs.RowLaws.{row-more}
 use Rattle.reading.proofs.CheckLaws.{hold-both, fail-left, fail-right, hold-decide, fail-decides}
 use Rattle.reading.proofs.OrderLaws.{order-holds, order-fails}
 
@@ -37,22 +38,14 @@ take-node [] i h = absurd (omega arith)
 take-node (n ∷ nodes) zero h = refl
 take-node (n ∷ nodes) (suc i) h = ap (λ (l : List Node). n ∷ l) (take-node nodes i (omega arith))
 
-map-more : {A : Type 0} (g : Node → A) (ns : List Node) (n : Node) → map g (ns ++ n ∷ []) ≡ map g ns ++ g n ∷ []
-map-more g [] n = refl
-map-more g (m ∷ ns) n = ap (λ (l : List _). g m ∷ l) (map-more g ns n)
-
-map-length : {A : Type 0} (g : Node → A) (ns : List Node) → length (map g ns) ≡ length ns
-map-length g [] = refl
-map-length g (n ∷ ns) = ap suc (map-length g ns)
-
-row-more : {A : Type 0} (m : ℕ) (z : A) (g : Node → A) (nodes : List Node) (i : ℕ) → i < length nodes → length nodes ≤ m
+row-taken : {A : Type 0} (m : ℕ) (z : A) (g : Node → A) (nodes : List Node) (i : ℕ) → i < length nodes → length nodes ≤ m
     → {row : List A} {x : A} → row ≡ padded m z (map g (take i nodes)) → x ≡ g (nodeAt nodes i)
     → set row i x ≡ padded m z (map g (take (i + 1) nodes))
-row-more m z g nodes i l few {row} {x} e k =
-    let xs = map g (take i nodes) in
-    let n : length xs ≡ i = map-length g (take i nodes) ∙ length-take-le i nodes (omega arith) in
-    let q : set (padded m z xs) (length xs) (g (nodeAt nodes i)) ≡ padded m z (xs ++ g (nodeAt nodes i) ∷ []) = padded-more m z xs (g (nodeAt nodes i)) (omega arith) in
-    rw (e, k, add-one i, take-node nodes i l, map-more g (take i nodes) (nodeAt nodes i)) (subst (λ (j : ℕ). set (padded m z xs) j (g (nodeAt nodes i)) ≡ padded m z (xs ++ g (nodeAt nodes i) ∷ [])) n q)
+row-taken m z g nodes i l few {row} {x} e k =
+    let n : length (take i nodes) ≡ i = length-take-le i nodes (omega arith) in
+    let q = row-more g m z (take i nodes) (nodeAt nodes i) (omega arith) in
+    rw (e, k, add-one i, take-node nodes i l)
+    (subst (λ (j : ℕ). set (padded m z (map g (take i nodes))) j (g (nodeAt nodes i)) ≡ padded m z (map g (take i nodes ++ nodeAt nodes i ∷ []))) n q)
 
 -- the features before a position were read
 pub record ReadBelow (nodes : List Node) (i : ℕ) (fs : List Feature) (ps : List ℕ) : Type 0 where
@@ -69,14 +62,14 @@ few-here : (before : List Node) (n : Node) → AllHold (featureChecks before n) 
 unfolding featureChecks
 few-here before n h = leb-true _ _ (h .1 .1 .1 .1 .1 .1 .1 .1 .1 .1 .1 .1 .1 .1 .1 .1 .1 .0)
 
-module _ {tree : List ℕ} {b : Blocks} {fs : Features} {nodes : List Node} (a : AtPlaces tree b fs nodes) where
-  pub place-low : (i : ℕ) → i < fs .count → getD (fs .nodes) i noPlace .at ≤ largestTree
+module _ {tree : List ℕ} {b : Blocks} {fs : ChildPlaces} {nodes : List Node} (a : AtPlaces tree b fs nodes) where
+  pub place-low : (i : ℕ) → i < fs .count → getD (fs .places) i noPlace .at ≤ largestTree
   place-low i l =
       let k : i < length nodes = omega (arith, a .count) in
       omega (arith, a .low i k, a .places i k .offset)
 
   module _ {i : ℕ} {features : List Feature} {phandles : List ℕ} (w : ReadBelow nodes i features phandles) where
-    module _ (l : i < fs .count) {new : List ℕ} {read : FeatureRead} (r : ReadsFeature tree b (getD (fs .nodes) i noPlace) phandles new i read) where
+    module _ (l : i < fs .count) {new : List ℕ} {read : FeatureRead} (r : ReadsFeature tree b (getD (fs .places) i noPlace) phandles new i read) where
       inside : i < length nodes
       inside = omega (arith, a .count)
 
@@ -90,8 +83,8 @@ module _ {tree : List ℕ} {b : Blocks} {fs : Features} {nodes : List Node} (a :
       below-more z = record {
         within = omega (arith, inside);
         hold = λ j h. go j h (decLt j i);
-        features = row-more mostFeatures noFeature featureOf nodes i inside (a .few) (w .features) (here .feature z);
-        phandles = here .phandle z ∙ rw long (row-more mostFeatures 0 notedOf nodes i inside (a .few) (w .phandles) refl);
+        features = row-taken mostFeatures noFeature featureOf nodes i inside (a .few) (w .features) (here .feature z);
+        phandles = here .phandle z ∙ rw long (row-taken mostFeatures 0 notedOf nodes i inside (a .few) (w .phandles) refl);
       }
         where
           go : (j : ℕ) → j < i + 1 → Dec (j < i) → AllHold (featureChecks (take j nodes) (nodeAt nodes j))
@@ -99,7 +92,7 @@ module _ {tree : List ℕ} {b : Blocks} {fs : Features} {nodes : List Node} (a :
           go j h (no k) = let e : j ≡ i = omega arith in rw e (here .judged .hold z)
 
       pub below-refused : (numberOf (read .refusal) ≡ 0 → ⊥) → {all : FeaturesRead} → all .refusal ≡ read .refusal
-          → all .place ≡ getD (fs .nodes) i noPlace .at
+          → all .place ≡ getD (fs .places) i noPlace .at
           → FeaturesAre nodes new all
       below-refused z {all} e p = record {
         judged = record {
@@ -123,7 +116,7 @@ module _ {tree : List ℕ} {b : Blocks} {fs : Features} {nodes : List Node} (a :
         }
 
 -- the features, and then their dependencies
-module _ {tree : List ℕ} {b : Blocks} {isa : ℕ} {fs : Features} {c : Node} (g : Contains tree b isa fs c) {phandles : List ℕ} {read : FeaturesRead} (r : FeaturesAre (children c) phandles read) where
+module _ {tree : List ℕ} {b : Blocks} {isa : ℕ} {fs : ChildPlaces} {c : Node} (g : Contains tree b isa fs c) {phandles : List ℕ} {read : FeaturesRead} (r : FeaturesAre (children c) phandles read) where
   pub features-refused : (numberOf (read .refusal) ≡ 0 → ⊥) → {x : Placed Record} → x ≡ refuseAt noFeatures (fault (numberOf (read .refusal)) (read .place))
       → x ≡ readFeatures c
   unfolding readFeatures

@@ -9,12 +9,13 @@ use lib.Seq.{length-take-le}
 use Rattle.header.specs.declared.Blocks.{Blocks}
 use Rattle.names.specs.Names.{sameText}
 use Rattle.positions.proofs.BelowLaws.{no-way}
-use Rattle.reader.specs.declared.nodes.Features.{Features}
-use Rattle.reading.specs.Nodes.{Node}
+use Rattle.nodes.specs.declared.ChildPlaces.{ChildPlaces}
+use Rattle.nodes.specs.Nodes.{Node, nodeAt}
 use Rattle.reading.specs.Features.{inOrder, some, nameChecks}
-use Rattle.reading.specs.Reading.{nodeAt}
 use Rattle.reading.specs.Ends.{AllHold, FirstFailing}
-use Rattle.reader.specs.Parts.{noPlace, sameNames, FirstRepeated, AtPlaces}
+use Rattle.nodes.specs.Places.{noPlace, sameNames}
+use Rattle.nodes.specs.Parts.{FirstRepeated}
+use Rattle.reader.specs.Parts.{AtPlaces}
 use Rattle.reading.proofs.Carriers.{node-before, some-none}
 use Rattle.reading.proofs.CheckLaws.{fail-here}
 use Rattle.reading.proofs.OrderLaws.{order-holds, order-fails}
@@ -32,9 +33,9 @@ one-passes q ns j l h = go (some q ns) refl
     go true e = refl
     go false e = no-way (q (nodeAt ns j)) h (some-none q ns j l e)
 
-module _ (tree : List ℕ) (b : Blocks) (fs : Features) (nodes : List Node) (at : AtPlaces tree b fs nodes) where
+module _ (tree : List ℕ) (b : Blocks) (fs : ChildPlaces) (nodes : List Node) (at : AtPlaces tree b fs nodes) where
   abbrev same : ℕ → ℕ → Bool
-  same i j = sameNames tree (b .end) (fs .nodes) i j
+  same i j = sameNames tree (b .end) (fs .places) i j
 
   -- the test of a node's name against an earlier one's
   abbrev named : ℕ → Node → Bool
@@ -50,11 +51,11 @@ module _ (tree : List ℕ) (b : Blocks) (fs : Features) (nodes : List Node) (at 
       let e = none-pass (named i) (take i nodes) (λ j k. named-is i j l (omega arith) ∙ h j (omega arith)) in
       (ap not e, tt)
 
-  pub names-differ : FirstRepeated (sameNames tree (b .end) (fs .nodes)) (fs .count) (fs .count) → AllHold (inOrder nameChecks [] nodes)
+  pub names-differ : FirstRepeated (sameNames tree (b .end) (fs .places)) (fs .count) (fs .count) → AllHold (inOrder nameChecks [] nodes)
   names-differ f = order-holds nameChecks nodes (λ i l. name-new i l (λ j k. f .before i j (omega (arith, at .count)) k))
 
-  pub names-repeat : (r : ℕ) → r < fs .count → FirstRepeated (sameNames tree (b .end) (fs .nodes)) (fs .count) r
-      → FirstFailing (inOrder nameChecks [] nodes) 9 (getD (fs .nodes) r noPlace .at)
+  pub names-repeat : (r : ℕ) → r < fs .count → FirstRepeated (sameNames tree (b .end) (fs .places)) (fs .count) r
+      → FirstFailing (inOrder nameChecks [] nodes) 9 (getD (fs .places) r noPlace .at)
   names-repeat r l f =
       let h : r < length nodes = omega (arith, at .count) in
       let j = f .there l in

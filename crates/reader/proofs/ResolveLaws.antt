@@ -12,14 +12,14 @@ use Rattle.characters.specs.Characters.{bytes}
 use Rattle.header.specs.declared.Blocks.{Blocks}
 use Rattle.refusal.specs.declared.Refusal.the-variants.{None, UnknownPhandle}
 use Rattle.record.specs.Record.{mostDependencies, slotCount}
-use Rattle.reader.specs.declared.nodes.Features.{Features}
-use Rattle.reading.specs.Nodes.{Node}
-use Rattle.reading.specs.Values.{cellsOf}
+use Rattle.nodes.specs.declared.ChildPlaces.{ChildPlaces}
+use Rattle.nodes.specs.Nodes.{Node, nodeAt}
+use Rattle.nodes.specs.Values.{cellsOf}
 use Rattle.reading.specs.Dependencies.{carrierChecks, slotsOf}
-use Rattle.reading.specs.Reading.{nodeAt}
 use Rattle.reading.specs.Accepted.{dependenciesOf}
 use Rattle.reading.specs.Ends.{AllHold, FirstFailing}
-use Rattle.reader.specs.Parts.{noPlace, Resolves, dependenciesAt, RoomFor, ResolvesFeature, Known, SomeKnown, ResolvesAll}
+use Rattle.nodes.specs.Places.{noPlace}
+use Rattle.reader.specs.Parts.{Resolves, dependenciesAt, RoomFor, ResolvesFeature, Known, SomeKnown, ResolvesAll}
 use Rattle.reading.proofs.Carriers.{node-split}
 use Rattle.reading.proofs.SlotRowLaws.{take-node, hold-last, fail-at, slots-longer, slots-last}
 
@@ -33,7 +33,7 @@ none-resolved : (nodes : List Node) → FirstResolved nodes [] 0 (replicate slot
 unfolding carrierChecks slotsOf
 none-resolved nodes = record { hold = tt; size = refl; found = refl }
 
-module _ (tree : List ℕ) (b : Blocks) (fs : Features) (phandles : List ℕ) where
+module _ (tree : List ℕ) (b : Blocks) (fs : ChildPlaces) (phandles : List ℕ) where
   pub record AllResolved (slots : List ℕ) (i : ℕ) : Type 0 where
     pub all : (nodes : List Node) → Known tree b fs phandles nodes → FirstResolved nodes (take i nodes) i slots
 
@@ -52,7 +52,7 @@ module _ (tree : List ℕ) (b : Blocks) (fs : Features) (phandles : List ℕ) wh
   -- the next feature
   module _ {i : ℕ} (next : i < fs .count) where
     abbrev first : ℕ
-    first = getD (fs .nodes) i noPlace .behind
+    first = getD (fs .places) i noPlace .behind
 
     cells-are : {nodes : List Node} → Known tree b fs phandles nodes → dependenciesAt tree b first ≡ dependenciesOf (nodeAt nodes i)
     cells-are k = ap cellsOf (sym (k .at .places i (omega (arith, k .at .count)) .values (bytes "dependencies")))
@@ -87,7 +87,7 @@ module _ (tree : List ℕ) (b : Blocks) (fs : Features) (phandles : List ℕ) wh
             });
       }
 
-      pub resolve-fail : t ≡ false → ResolvesAll tree b fs phandles new (record { refusal = UnknownPhandle; place = getD (fs .nodes) i noPlace .at })
+      pub resolve-fail : t ≡ false → ResolvesAll tree b fs phandles new (record { refusal = UnknownPhandle; place = getD (fs .places) i noPlace .at })
       resolve-fail z nodes k =
           let n = nodeAt nodes i in
           let h : i < length nodes = omega (arith, k .at .count) in

@@ -2,11 +2,9 @@
 use Prim.Native.Nat.{ℕ, _+_, _*_, _≤_, _<_}
 use mathlib.Core.Path.{_≡_}
 use mathlib.Core.Bool.{Bool, true, false}
-use mathlib.Core.List.{List, [], _∷_, _++_, map}
-use lib.ListN.{length, take, drop, getD, set}
-use Rattle.cells.specs.Strings.{Text, ended, unended, textAt}
-use Rattle.names.specs.Names.{sameText}
-use Rattle.tokens.specs.Tokens.{Token, beginNode, afterName}
+use mathlib.Core.List.{List, [], _++_, map}
+use lib.ListN.{length, getD, set}
+use Rattle.tokens.specs.Tokens.{Token}
 use Rattle.header.specs.declared.Blocks.{Blocks}
 use Rattle.walk.specs.Walk.{treeTokens}
 use Rattle.header.specs.Header.{largestTree}
@@ -18,13 +16,9 @@ use Rattle.record.specs.declared.Feature.{Feature}
 use Rattle.record.specs.Record.{mostFeatures, mostDependencies, slotCount, noFeature, noFeatures}
 use Rattle.characters.specs.Characters.{bytes}
 use Rattle.positions.specs.Bits.{bit}
-use Rattle.reader.specs.declared.nodes.Move.{Move}
-use Rattle.reader.specs.declared.nodes.Move.the-variants.{Child, Past}
-use Rattle.reader.specs.declared.nodes.NodePlace.{NodePlace}
-use Rattle.reader.specs.declared.nodes.Features.{Features}
-use Rattle.reader.specs.declared.nodes.Held.{Held}
-use Rattle.reader.specs.declared.nodes.Held.the-variants.{Missing, At}
-use Rattle.reading.specs.Nodes.{Node, childrenAt, children}
+use Rattle.nodes.specs.declared.NodePlace.{NodePlace}
+use Rattle.nodes.specs.declared.ChildPlaces.{ChildPlaces}
+use Rattle.nodes.specs.Nodes.{Node, nodeAt, children}
 use Rattle.refusal.specs.Refusal.{Fault, Placed, placed, refuseAt, numberOf}
 use Rattle.refusal.specs.Checks.{Check, firstFault}
 use Rattle.refusal.specs.declared.Refusal.{Refusal}
@@ -36,74 +30,15 @@ use Rattle.feature.specs.declared.SupportCells.{SupportCells}
 use Rattle.feature.specs.declared.BitCells.{BitCells}
 use Rattle.feature.specs.declared.FeatureCells.{FeatureCells}
 use Rattle.feature.specs.Phandles.{noted}
-use Rattle.reading.specs.Reading.{nodeAt, containerProperties, countChecks, recordOf}
-use Rattle.reading.specs.Values.{Value, missing, value, valueIn, valueOf, isGiven, number, cellsOf}
+use Rattle.reading.specs.Reading.{containerProperties, countChecks, recordOf}
+use Rattle.nodes.specs.Parts.{Alike, IsNode, AreNodes}
+use Rattle.nodes.specs.Values.{Value, missing, value, valueIn, valueOf, isGiven, number, cellsOf}
 use Rattle.reading.specs.Features.{inOrder, nameChecks, bitChecks, phandleChecks, dependenciesChecks, featureChecks, featureOf}
 use Rattle.reading.specs.Dependencies.{carrier, slotOf, cellChecks, carrierChecks, slotsOf}
 use Rattle.reading.specs.Ends.{AllHold, FirstFailing}
 use Rattle.reader.specs.declared.features.FeatureRead.{FeatureRead}
 use Rattle.reader.specs.declared.features.FeaturesRead.{FeaturesRead}
 use Rattle.reader.specs.declared.dependencies.Finding.{Finding}
-
--- where a value lies in a tree
-pub record Lies (tree : List ℕ) (v : Value) (from size : ℕ) : Type 0 where
-  pub bytes : v ≡ value (take size (drop from tree))
-  pub within : from + size ≤ length tree
-
-abbrev pub Shows : List ℕ → Value → Held → Type 0
-Shows tree v Missing = v ≡ missing
-Shows tree v (At from size) = Lies tree v from size
-
--- where the tokens behind a begin token begin, in a block that ends at `stop`
-abbrev pub behindOf : ℕ → ℕ → Text → ℕ
-behindOf from stop (ended name) = afterName from name
-behindOf from stop unended = stop
-
--- lists of tokens that begin with the same properties and have the same child nodes
-pub record Alike (ts us : List Token) : Type 0 where
-  pub values : (n : List ℕ) → valueIn n ts ≡ valueIn n us
-  pub nodes : (depth : ℕ) → childrenAt depth ts ≡ childrenAt depth us
-
--- what the token at a place is to the children of a node, in as many nodes of its own
-pub data Moved (tree : List ℕ) (b : Blocks) (depth at : ℕ) : Move → Type 0 where
-  child : {t name next : ℕ} {ts : List Token} → depth ≡ 0 → treeTokens tree b at ≡ beginNode t (textAt tree name (b .end)) ∷ ts
-      → Alike ts (treeTokens tree b next) → at < next → Moved tree b depth at (Child t name next)
-  past : {d next : ℕ} → childrenAt depth (treeTokens tree b at) ≡ childrenAt d (treeTokens tree b next) → at < next → d ≤ next
-      → Moved tree b depth at (Past d next)
-
-abbrev pub noPlace : NodePlace
-noPlace = record { at = 0; name = 0; behind = 0 }
-
--- a node's place: its offset, its name, and its values
-pub record IsNode (tree : List ℕ) (b : Blocks) (n : Node) (p : NodePlace) : Type 0 where
-  pub offset : n .at ≡ p .at
-  pub name : n .name ≡ textAt tree (p .name) (b .end)
-  pub values : (name : List ℕ) → valueIn name (n .behind) ≡ valueIn name (treeTokens tree b (p .behind))
-
--- the places of some nodes
-abbrev pub AreNodes : List ℕ → Blocks → List Node → List NodePlace → Type 0
-AreNodes tree b ns ps = (i : ℕ) → i < length ns → IsNode tree b (nodeAt ns i) (getD ps i noPlace)
-
--- the first of some nodes, up to 64; and whether there are more
-pub record Gathers (tree : List ℕ) (b : Blocks) (all : List Node) (r : Features) : Type 0 where
-  pub taken : List Node
-  pub others : List Node
-  pub split : all ≡ taken ++ others
-  pub count : r .count ≡ length taken
-  pub few : length taken ≤ mostFeatures
-  pub nodes : AreNodes tree b taken (r .nodes)
-  pub whole : r .more ≡ false → others ≡ []
-  pub over : r .more ≡ true → (length taken ≡ mostFeatures) × ((n : Node) × ((rest : List Node) × (others ≡ n ∷ rest) × (n .at ≡ r .over)))
-
--- the features at two positions have the same name
-unfoldable pub sameNames : List ℕ → ℕ → List NodePlace → ℕ → ℕ → Bool
-sameNames tree stop ps i j = sameText (textAt tree (getD ps j noPlace .name) stop) (textAt tree (getD ps i noPlace .name) stop)
-
--- the first position that is the same as an earlier one; n where there is none below n
-pub record FirstRepeated (same : ℕ → ℕ → Bool) (n r : ℕ) : Type 0 where
-  pub within : r ≤ n
-  pub before : (i j : ℕ) → i < r → j < i → same i j ≡ false
-  pub there : r < n → (j : ℕ) × ((j < r) × (same r j ≡ true))
 
 -- the refusal of a property of one cell, 0 where there is none; it may be needed
 abbrev pub cellFault : Bool → Value → ℕ
@@ -189,13 +124,13 @@ ReadsFeature tree b p old new i r =
     (before : List Node) (n : Node) → IsNode tree b n p → ArePhandles old before → i ≡ length before → FeatureIs before n old new r
 
 -- places that are those of some nodes, at most 64 of them
-pub record AtPlaces (tree : List ℕ) (b : Blocks) (fs : Features) (nodes : List Node) : Type 0 where
+pub record AtPlaces (tree : List ℕ) (b : Blocks) (fs : ChildPlaces) (nodes : List Node) : Type 0 where
   pub count : fs .count ≡ length nodes
   pub few : length nodes ≤ mostFeatures
-  pub places : AreNodes tree b nodes (fs .nodes)
+  pub places : AreNodes tree b nodes (fs .places)
   pub low : (i : ℕ) → i < length nodes → nodeAt nodes i .at ≤ largestTree
 
-abbrev pub SomeNodes : List ℕ → Blocks → Features → Type 0
+abbrev pub SomeNodes : List ℕ → Blocks → ChildPlaces → Type 0
 SomeNodes tree b fs = (nodes : List Node) × AtPlaces tree b fs nodes
 
 abbrev pub FewEach : List Node → Type 0
@@ -208,7 +143,7 @@ pub record FeaturesAre (nodes : List Node) (phandles : List ℕ) (r : FeaturesRe
   pub noted : numberOf (r .refusal) ≡ 0 → ArePhandles phandles nodes
   pub few : numberOf (r .refusal) ≡ 0 → FewEach nodes
 
-abbrev pub ReadsFeatures : List ℕ → Blocks → Features → List ℕ → FeaturesRead → Type 0
+abbrev pub ReadsFeatures : List ℕ → Blocks → ChildPlaces → List ℕ → FeaturesRead → Type 0
 ReadsFeatures tree b fs phandles r = (nodes : List Node) → AtPlaces tree b fs nodes → FeaturesAre nodes phandles r
 
 -- where cells lie in a tree
@@ -240,12 +175,12 @@ ResolvesFeature tree b first phandles count at old new r =
     (nodes : List Node) → ArePhandles phandles nodes → count ≡ length nodes → Resolves nodes (dependenciesAt tree b first) at old new r
 
 -- places of nodes whose features were read
-pub record Known (tree : List ℕ) (b : Blocks) (fs : Features) (phandles : List ℕ) (nodes : List Node) : Type 0 where
+pub record Known (tree : List ℕ) (b : Blocks) (fs : ChildPlaces) (phandles : List ℕ) (nodes : List Node) : Type 0 where
   pub at : AtPlaces tree b fs nodes
   pub noted : ArePhandles phandles nodes
   pub few : FewEach nodes
 
-abbrev pub SomeKnown : List ℕ → Blocks → Features → List ℕ → Type 0
+abbrev pub SomeKnown : List ℕ → Blocks → ChildPlaces → List ℕ → Type 0
 SomeKnown tree b fs phandles = (nodes : List Node) × Known tree b fs phandles nodes
 
 -- all dependencies
@@ -253,7 +188,7 @@ pub record SlotsAre (nodes : List Node) (slots : List ℕ) (r : Finding) : Type 
   pub judged : Judged (carrierChecks nodes nodes) (numberOf (r .refusal)) (r .place)
   pub found : numberOf (r .refusal) ≡ 0 → slots ≡ padded slotCount 0 (slotsOf nodes nodes)
 
-abbrev pub ResolvesAll : List ℕ → Blocks → Features → List ℕ → List ℕ → Finding → Type 0
+abbrev pub ResolvesAll : List ℕ → Blocks → ChildPlaces → List ℕ → List ℕ → Finding → Type 0
 ResolvesAll tree b fs phandles slots r = (nodes : List Node) → Known tree b fs phandles nodes → SlotsAre nodes slots r
 
 -- "each one string with its zero byte"
@@ -275,11 +210,11 @@ abbrev pub ReadsContainer : List ℕ → Blocks → ℕ → CellRead → Type 0
 ReadsContainer tree b first r = (c : Node) → ((name : List ℕ) → valueIn name (c .behind) ≡ valueIn name (treeTokens tree b first)) → ContainerIs c r
 
 -- a container, its `isa` and the places of its features
-pub record Contains (tree : List ℕ) (b : Blocks) (number-read : ℕ) (fs : Features) (c : Node) : Type 0 where
+pub record Contains (tree : List ℕ) (b : Blocks) (number-read : ℕ) (fs : ChildPlaces) (c : Node) : Type 0 where
   pub nodes : AtPlaces tree b fs (children c)
   pub isa : number-read ≡ number (valueOf c "isa")
 
-abbrev pub SomeContainer : List ℕ → Blocks → ℕ → Features → Type 0
+abbrev pub SomeContainer : List ℕ → Blocks → ℕ → ChildPlaces → Type 0
 SomeContainer tree b isa fs = (c : Node) × Contains tree b isa fs c
 
 -- the last of the reading: the features' properties, and their dependencies
@@ -287,7 +222,7 @@ unfoldable pub readFeatures : Node → Placed Record
 readFeatures c =
     firstFault (refuseAt noFeatures) (inOrder featureChecks [] (children c) ++ carrierChecks (children c) (children c)) (placed (recordOf c))
 
-abbrev pub ReadsRecord : List ℕ → Blocks → ℕ → Features → Placed Record → Type 0
+abbrev pub ReadsRecord : List ℕ → Blocks → ℕ → ChildPlaces → Placed Record → Type 0
 ReadsRecord tree b isa fs r = (c : Node) → Contains tree b isa fs c → r ≡ readFeatures c
 
 -- a container, its `isa` and where its contents begin

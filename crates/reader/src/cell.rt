@@ -1,8 +1,8 @@
 // Properties of one cell.
-use crate::nodes::Held;
-use crate::nodes::value_of;
 use feature::CellRead;
 use header::Blocks;
+use nodes::Held;
+use nodes::value_of;
 use record::HIGHEST_BIT;
 use record::MOST_DEPENDENCIES;
 use refusal::Refusal;
@@ -12,7 +12,7 @@ ghost use lib.ListN.{length as length-of};
 ghost use Rattle.characters.specs.Characters.{bytes};
 ghost use Rattle.positions.specs.Bits.{bit as bit-of};
 ghost use Rattle.walk.specs.Walk.{treeTokens};
-ghost use Rattle.reading.specs.Values.{valueIn};
+ghost use Rattle.nodes.specs.Values.{valueIn};
 ghost use Rattle.reader.specs.Parts.{noCell, CellIs, atMost, CountIs, BitIs};
 
 // No cell: it is refused, or not given.

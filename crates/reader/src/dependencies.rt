@@ -1,9 +1,9 @@
 // Dependencies: each phandle becomes the position of the feature that carries it.
-use crate::nodes::Features;
-use crate::nodes::Held;
-use crate::nodes::value_of;
 use feature::carrier_below;
 use header::Blocks;
+use nodes::ChildPlaces;
+use nodes::Held;
+use nodes::value_of;
 use record::MOST_DEPENDENCIES;
 use record::MOST_FEATURES;
 use record::SLOTS;
@@ -99,7 +99,7 @@ fn resolve_feature(
 pub(crate) fn resolve(
     tree: &[u8],
     b: Blocks,
-    fs: Features,
+    fs: ChildPlaces,
     phandles: &[u64; MOST_FEATURES],
     slots: &mut [u16; SLOTS],
 ) -> Finding
@@ -108,7 +108,7 @@ pub(crate) fn resolve(
 {
     let mut i: usize = 0;
     while i < fs.count {
-        let p = fs.nodes[i];
+        let p = fs.places[i];
         if !resolve_feature(
             tree,
             b,

@@ -4,8 +4,6 @@ use crate::cell::no_cell;
 use crate::cell::read_bit;
 use crate::cell::read_cell;
 use crate::cell::read_count;
-use crate::nodes::Features;
-use crate::nodes::NodePlace;
 use feature::BitCells;
 use feature::CellRead;
 use feature::FeatureCells;
@@ -16,6 +14,8 @@ use feature::no_feature;
 use feature::phandle_noted;
 use feature::refusal_of;
 use header::Blocks;
+use nodes::ChildPlaces;
+use nodes::NodePlace;
 use record::Feature;
 use record::MOST_FEATURES;
 use refusal::Refusal;
@@ -26,7 +26,7 @@ ghost use Rattle.characters.specs.Characters.{bytes};
 ghost use Rattle.header.specs.Header.{largestTree};
 ghost use Rattle.record.specs.Record.{mostFeatures};
 ghost use Rattle.walk.specs.Walk.{treeTokens};
-ghost use Rattle.reading.specs.Values.{valueIn};
+ghost use Rattle.nodes.specs.Values.{valueIn};
 ghost use Rattle.reader.specs.Parts.{
   PhandleIs,
   SupportIs,
@@ -150,7 +150,7 @@ fn read_feature(
 pub(crate) fn read_features(
     tree: &[u8],
     b: Blocks,
-    fs: Features,
+    fs: ChildPlaces,
     phandles: &mut [u64; MOST_FEATURES],
 ) -> FeaturesRead
     requires { ⌜ (b .end ≤ length-of (now tree)) × SomeNodes (now tree) b fs × ArePhandles (now phandles) [] ⌝ }
@@ -159,7 +159,7 @@ pub(crate) fn read_features(
     let mut features = [no_feature(); MOST_FEATURES];
     let mut i: usize = 0;
     while i < fs.count {
-        let p = fs.nodes[i];
+        let p = fs.places[i];
         let read = read_feature(tree, b, p, &mut *phandles, i);
         let refusal = read.refusal;
         if refusal::number(refusal) != 0 {

@@ -2,7 +2,6 @@
 mod cell;
 mod dependencies;
 mod features;
-mod nodes;
 
 use cell::no_cell;
 use cell::read_cell;
@@ -11,10 +10,10 @@ use feature::CellRead;
 use feature::no_feature;
 use features::read_features;
 use header::Blocks;
-use nodes::Features;
+use nodes::ChildPlaces;
 use nodes::Held;
 use nodes::behind;
-use nodes::features_of;
+use nodes::child_places;
 use nodes::repeated_name;
 use nodes::value_of;
 use record::MOST_FEATURES;
@@ -29,7 +28,7 @@ ghost use Rattle.refusal.specs.Refusal.{numberOf, fault, placed, refuseAt};
 ghost use Rattle.record.specs.Record.{noFeatures};
 ghost use Rattle.walk.specs.Checked.{checkTree};
 ghost use Rattle.walk.specs.Walk.{treeTokens};
-ghost use Rattle.reading.specs.Values.{valueIn};
+ghost use Rattle.nodes.specs.Values.{valueIn};
 ghost use Rattle.reading.specs.Reading.{readAccepted, readRecord};
 ghost use Rattle.reader.specs.Outcome.{readOutcome};
 ghost use Rattle.reader.specs.Parts.{
@@ -111,7 +110,7 @@ fn refused(refusal: Refusal, place: usize) -> Read
 }
 
 // The features at some places with all that they hold.
-fn read_places(tree: &[u8], b: Blocks, isa: u32, fs: Features) -> Read
+fn read_places(tree: &[u8], b: Blocks, isa: u32, fs: ChildPlaces) -> Read
     requires { ⌜ (b .end ≤ length-of (now tree)) × (SomeContainer (now tree) b isa fs) ⌝ }
     ensures { λ r. ⌜ ReadsRecord (now (tree .entry)) b isa fs (readOutcome r) ⌝ }
 {
@@ -152,13 +151,13 @@ fn read_children(tree: &[u8], b: Blocks, isa: u32, first: usize) -> Read
     requires { ⌜ (b .end ≤ length-of (now tree)) × (SomeOpen (now tree) b isa first) ⌝ }
     ensures { λ r. ⌜ ReadsChildren (now (tree .entry)) b isa first (readOutcome r) ⌝ }
 {
-    let fs = features_of(tree, b, first);
+    let fs = child_places(tree, b, first);
     if fs.more {
         return refused(Refusal::TooMany, fs.over);
     }
     let later = repeated_name(tree, b, fs);
     if later < fs.count {
-        let p = fs.nodes[later];
+        let p = fs.places[later];
         return refused(Refusal::Repeated, p.at);
     }
     read_places(tree, b, isa, fs)

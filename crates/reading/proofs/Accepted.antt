@@ -11,11 +11,11 @@ use Rattle.header.specs.Header.{blocksOf}
 use Rattle.names.specs.Names.{sameText, either}
 use Rattle.record.specs.Record.{mostFeatures, mostDependencies, highestBit}
 use Rattle.walk.specs.Checked.{checkTree}
-use Rattle.reading.specs.Nodes.{Node, children}
-use Rattle.reading.specs.Values.{Value, valueOf, isGiven, isCell, isCellOrMissing, isCells, number, lowBit}
+use Rattle.nodes.specs.Nodes.{Node, nodeAt, children}
+use Rattle.nodes.specs.Values.{Value, valueOf, isGiven, isCell, isCellOrMissing, isCells, number, lowBit}
 use Rattle.reading.specs.Features.{inOrder, some, nameChecks, featureChecks, isPhandle, isRepeated}
 use Rattle.reading.specs.Dependencies.{carrierChecks}
-use Rattle.reading.specs.Reading.{nodeAt, containersOf, containerChecks, containerProperties, countChecks, readChecks}
+use Rattle.reading.specs.Reading.{containersOf, containerChecks, containerProperties, countChecks, readChecks}
 use Rattle.reading.specs.Accepted.{checksOf, dependenciesOf, BitForm, FeatureForm, ContainerForm, Accepted}
 use Rattle.reading.proofs.Passed.{holds-true, holds-false, passes-both, passes-order, passes-cell, passes-carriers}
 

@@ -18,11 +18,11 @@ use Rattle.walk.specs.Checked.{layoutOf}
 use Rattle.walk.specs.Faults.{CheckEnds, answered, headerRefused, walkRefused}
 use Rattle.walk.specs.declared.Layout.{Layout}
 use Rattle.walk.proofs.CheckEnds.{check-ends}
-use Rattle.reading.specs.Nodes.{Node, children}
-use Rattle.reading.specs.Values.{Value, valueOf, isGiven, number, lowBit}
+use Rattle.nodes.specs.Nodes.{Node, nodeAt, children}
+use Rattle.nodes.specs.Values.{Value, valueOf, isGiven, number, lowBit}
 use Rattle.reading.specs.Features.{inOrder, nameChecks, requiredChecks, optionalChecks, bitChecks, phandleChecks, dependenciesChecks, featureChecks}
 use Rattle.reading.specs.Dependencies.{isSomewhere, carrier, cellChecks, carrierChecks}
-use Rattle.reading.specs.Reading.{nodeAt, containersOf, containerChecks, containerProperties, countChecks, readChecks, recordOf, afterWalk, readRecord}
+use Rattle.reading.specs.Reading.{containersOf, containerChecks, containerProperties, countChecks, readChecks, recordOf, afterWalk, readRecord}
 use Rattle.reading.specs.Accepted.{containerOf, checksOf, dependenciesOf, BitForm, FeatureForm, ContainerForm, Accepted}
 use Rattle.reading.proofs.Ends.{read-accepted}
 

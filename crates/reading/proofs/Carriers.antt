@@ -12,11 +12,10 @@ use Rattle.names.specs.Names.{either}
 use Rattle.tokens.specs.Steps.{pick}
 use Rattle.record.specs.declared.Property.the-variants.{Phandle}
 use Rattle.record.specs.declared.Cell.the-variants.{Given}
-use Rattle.reading.specs.Nodes.{Node, node}
-use Rattle.reading.specs.Values.{Value, missing, value, valueOf, number}
+use Rattle.nodes.specs.Nodes.{Node, node, nodeAt}
+use Rattle.nodes.specs.Values.{Value, missing, value, valueOf, number}
 use Rattle.reading.specs.Features.{some, isCarried, carries, isRepeated}
 use Rattle.reading.specs.Dependencies.{position, carrierFrom, isSomewhere}
-use Rattle.reading.specs.Reading.{nodeAt}
 use Rattle.reading.specs.Resolved.{cellOf, cellIn}
 
 -- the node at an index

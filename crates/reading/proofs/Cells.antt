@@ -11,8 +11,8 @@ use Rattle.positions.specs.Below.{oneIf}
 use Rattle.record.specs.declared.Property.{Property}
 use Rattle.record.specs.declared.Property.the-variants.{Isa, UsablePrivilege, HvSupport, OsSupport, HfscrBitNr, FscrBitNr, HwcapBitNr, Phandle, Dependencies}
 use Rattle.record.specs.Cells.{bitOf, held, whenGiven, cell, numberIn, dependencyCount}
-use Rattle.reading.specs.Nodes.{Node}
-use Rattle.reading.specs.Values.{Value, missing, value, valueOf, isGiven, number, cellsOf}
+use Rattle.nodes.specs.Nodes.{Node}
+use Rattle.nodes.specs.Values.{Value, missing, value, valueOf, isGiven, number, cellsOf}
 use Rattle.reading.specs.Features.{givenWord, featureOf}
 use Rattle.reading.specs.Accepted.{dependenciesOf}
 use Rattle.reading.specs.Resolved.{cellOf, countOf, cellIn}

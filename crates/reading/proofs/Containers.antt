@@ -15,7 +15,7 @@ use Rattle.walk.specs.Checked.{layoutOf, checkTree}
 use Rattle.walk.specs.Faults.{allTokens, CheckEnds, answered, headerRefused, walkRefused}
 use Rattle.walk.specs.declared.Layout.{Layout}
 use Rattle.walk.proofs.CheckEnds.{check-ends}
-use Rattle.reading.specs.Nodes.{Node, node, nodesNamed}
+use Rattle.nodes.specs.Nodes.{Node, node, nodesNamed}
 use Rattle.reading.specs.Reading.{containersOf}
 
 -- the offsets of some nodes' begin tokens

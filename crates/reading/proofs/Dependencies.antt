@@ -15,11 +15,11 @@ use Rattle.record.specs.declared.Property.the-variants.{Phandle}
 use Rattle.record.specs.declared.Cell.the-variants.{Given}
 use Rattle.record.specs.Record.{featureAt, slotAt}
 use Rattle.record.specs.Cells.{cell, dependencyCount}
-use Rattle.reading.specs.Nodes.{Node, children}
-use Rattle.reading.specs.Values.{valueOf, number}
+use Rattle.nodes.specs.Nodes.{Node, nodeAt, children}
+use Rattle.nodes.specs.Values.{valueOf, number}
 use Rattle.reading.specs.Features.{featureOf, carries}
 use Rattle.reading.specs.Dependencies.{slotOf}
-use Rattle.reading.specs.Reading.{nodeAt, recordOf, readRecord}
+use Rattle.reading.specs.Reading.{recordOf, readRecord}
 use Rattle.reading.specs.Accepted.{containerOf, featuresOf, dependenciesOf, FeatureForm, ContainerForm}
 use Rattle.reading.specs.Resolved.{cellIn, Holds, Zeroed, Resolved}
 use Rattle.reading.proofs.Cells.{cell-read, count-read}

@@ -13,9 +13,9 @@ use Rattle.record.specs.declared.Property.the-variants.{UsablePrivilege, HvSupp
 use Rattle.record.specs.Record.{mostFeatures, mostDependencies, highestBit, featureAt, slotAt}
 use Rattle.record.specs.Cells.{lowBit, dependencyCount}
 use Rattle.form.specs.WellFormed.{bitFits, bitsFit, dependenciesFit, featureFits, wellFormed}
-use Rattle.reading.specs.Nodes.{Node, children}
-use Rattle.reading.specs.Values.{Value, missing, value, valueOf, number}
-use Rattle.reading.specs.Reading.{nodeAt, readRecord}
+use Rattle.nodes.specs.Nodes.{Node, nodeAt, children}
+use Rattle.nodes.specs.Values.{Value, missing, value, valueOf, number}
+use Rattle.reading.specs.Reading.{readRecord}
 use Rattle.reading.specs.Accepted.{containerOf, BitForm, FeatureForm}
 use Rattle.reading.specs.Resolved.{cellOf, cellIn, Holds, Resolved}
 use Rattle.reading.proofs.Ends.{read-accepted}

@@ -8,8 +8,8 @@ use Rattle.names.specs.Names.{sameText}
 use Rattle.tokens.specs.Steps.{pick}
 use Rattle.tokens.specs.Tokens.{Token, beginNode, endNode, property, nop, end, fault}
 use Rattle.walk.specs.Grammar.{withoutNopTokens}
-use Rattle.reading.specs.Nodes.{Node, node, nodesNamed, childrenAt}
-use Rattle.reading.specs.Values.{value, valueIn}
+use Rattle.nodes.specs.Nodes.{Node, node, nodesNamed, childrenAt}
+use Rattle.nodes.specs.Values.{value, valueIn}
 
 -- a node without the NOPs behind its begin token
 abbrev pub withoutNops : Node → Node

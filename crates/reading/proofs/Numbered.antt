@@ -5,11 +5,11 @@ use native.Mathlib.Omega.{arith}
 use Rattle.refusal.specs.Refusal.{Fault}
 use Rattle.refusal.specs.Checks.{Check}
 use Rattle.record.specs.Record.{mostFeatures}
-use Rattle.reading.specs.Nodes.{Node, children}
-use Rattle.reading.specs.Values.{valueOf, lowBit}
+use Rattle.nodes.specs.Nodes.{Node, nodeAt, children}
+use Rattle.nodes.specs.Values.{valueOf, lowBit}
 use Rattle.reading.specs.Features.{inOrder, nameChecks, requiredChecks, optionalChecks, bitChecks, phandleChecks, dependenciesChecks, featureChecks}
 use Rattle.reading.specs.Dependencies.{cellChecks, carrierChecks}
-use Rattle.reading.specs.Reading.{nodeAt, containerProperties, containerChecks, countChecks, readChecks}
+use Rattle.reading.specs.Reading.{containerProperties, containerChecks, countChecks, readChecks}
 use Rattle.reading.specs.Accepted.{dependenciesOf}
 use Rattle.reading.proofs.Places.{AllWithin, node-within, children-within}
 

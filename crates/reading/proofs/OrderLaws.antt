@@ -6,9 +6,8 @@ use native.Mathlib.Omega.{arith}
 use lib.ListN.{length, take}
 use Rattle.refusal.specs.Refusal.{Fault}
 use Rattle.refusal.specs.Checks.{Check}
-use Rattle.reading.specs.Nodes.{Node}
+use Rattle.nodes.specs.Nodes.{Node, nodeAt}
 use Rattle.reading.specs.Features.{inOrder}
-use Rattle.reading.specs.Reading.{nodeAt}
 use Rattle.reading.specs.Ends.{AllHold, FirstFailing}
 use Rattle.reading.proofs.CheckLaws.{hold-both, fail-left, fail-right}
 

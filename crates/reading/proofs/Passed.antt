@@ -9,7 +9,7 @@ use lib.ListN.{length, getD}
 use Rattle.refusal.specs.Refusal.{Fault}
 use Rattle.refusal.specs.Checks.{Check}
 use Rattle.refusal.proofs.Checks.{Passes}
-use Rattle.reading.specs.Nodes.{Node}
+use Rattle.nodes.specs.Nodes.{Node}
 use Rattle.reading.specs.Features.{inOrder}
 use Rattle.reading.specs.Dependencies.{isSomewhere, carrier, cellChecks, carrierChecks}
 use Rattle.reading.specs.Accepted.{dependenciesOf}

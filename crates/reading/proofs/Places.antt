@@ -9,8 +9,7 @@ use Rattle.tokens.specs.Steps.{pick}
 use Rattle.tokens.specs.Tokens.{Token, beginNode, endNode, property, nop, end, fault, tokens}
 use Rattle.walk.specs.Faults.{offsetOf}
 use Rattle.walk.proofs.Complete.{tokens-induct}
-use Rattle.reading.specs.Nodes.{Node, node, nodesNamed, childrenAt}
-use Rattle.reading.specs.Reading.{nodeAt}
+use Rattle.nodes.specs.Nodes.{Node, node, nodeAt, nodesNamed, childrenAt}
 
 module _ (limit : ℕ) where
   -- tokens, and a node with the tokens behind its begin token

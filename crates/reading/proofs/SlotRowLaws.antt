@@ -9,9 +9,8 @@ use Rattle.cells.proofs.Rows.{length-padded}
 use Rattle.refusal.specs.Refusal.{Fault}
 use Rattle.refusal.specs.Checks.{Check}
 use Rattle.record.specs.Record.{mostDependencies}
-use Rattle.reading.specs.Nodes.{Node}
+use Rattle.nodes.specs.Nodes.{Node, nodeAt}
 use Rattle.reading.specs.Dependencies.{carrier, slotOf, cellChecks, carrierChecks, slotsOf}
-use Rattle.reading.specs.Reading.{nodeAt}
 use Rattle.reading.specs.Accepted.{dependenciesOf}
 use Rattle.reading.specs.Ends.{AllHold, FirstFailing}
 use Rattle.reading.proofs.CheckLaws.{hold-both, fail-left, fail-right}

@@ -8,25 +8,17 @@ use lib.Seq.{getD-append-add}
 use Rattle.cells.specs.Rows.{padded}
 use Rattle.cells.proofs.Rows.{length-padded}
 use Rattle.record.specs.Record.{mostFeatures, mostDependencies, slotCount, noFeature, featureAt, slotAt}
-use Rattle.reading.specs.Nodes.{Node, children}
+use Rattle.nodes.specs.Nodes.{Node, nodeAt, children}
+use Rattle.nodes.proofs.RowLaws.{row-node}
 use Rattle.reading.specs.Features.{featureOf}
 use Rattle.reading.specs.Dependencies.{carrier, slotOf, slotsOf}
-use Rattle.reading.specs.Reading.{nodeAt, recordOf}
+use Rattle.reading.specs.Reading.{recordOf}
 use Rattle.reading.specs.Accepted.{dependenciesOf}
 
 -- the feature at a position
-map-at : (ns : List Node) (i : ℕ) → i < length ns → getD (map featureOf ns) i noFeature ≡ featureOf (nodeAt ns i)
-unfolding nodeAt
-map-at [] i h = absurd (omega arith)
-map-at (n ∷ ns) zero h = refl
-map-at (n ∷ ns) (suc i) h = map-at ns i (omega arith)
-
 pub feature-at : (c : Node) (i : ℕ) → i < length (children c) → featureAt (recordOf c) i ≡ featureOf (nodeAt (children c) i)
 unfolding recordOf
-feature-at c i h =
-    let fs = map featureOf (children c) in
-    let l : i < length fs = omega (arith, length-map (children c) featureOf) in
-    List·getD-append fs (replicate (mostFeatures - length fs) noFeature) noFeature i l ∙ map-at (children c) i h
+feature-at c i h = row-node featureOf mostFeatures noFeature (children c) i h
 
 -- behind a list there is only the padding
 replicate-at : {A : Type 0} (z : A) (n k : ℕ) → getD (replicate n z) k z ≡ z

@@ -16,7 +16,7 @@ use Rattle.walk.specs.declared.Checked.{Checked}
 use Rattle.walk.specs.Checked.{checkTree, layoutOf, checkedOutcome}
 use Rattle.walk.specs.Faults.{CheckEnds, answered, headerRefused, walkRefused}
 use Rattle.walk.proofs.CheckEnds.{check-ends, check-answered}
-use Rattle.reading.specs.Values.{value, number}
+use Rattle.nodes.specs.Values.{value, number}
 use Rattle.reading.specs.Reading.{containersOf, readAccepted, afterWalk, readRecord}
 use Rattle.reading.proofs.Containers.{offsets, containers-noted}
 

@@ -10,11 +10,11 @@ use Rattle.header.specs.Header.{blocksOf}
 use Rattle.names.specs.Names.{sameText}
 use Rattle.record.specs.Record.{mostFeatures, mostDependencies, highestBit}
 use Rattle.walk.specs.Checked.{checkTree}
-use Rattle.reading.specs.Nodes.{Node, children}
-use Rattle.reading.specs.Values.{Value, valueOf, isText, isGiven, isCell, isCellOrMissing, isCells, number, lowBit, cellsOf}
+use Rattle.nodes.specs.Nodes.{Node, nodeAt, children}
+use Rattle.nodes.specs.Values.{Value, valueOf, isText, isGiven, isCell, isCellOrMissing, isCells, number, lowBit, cellsOf}
 use Rattle.reading.specs.Features.{some, isPhandle, isRepeated}
 use Rattle.reading.specs.Dependencies.{isSomewhere, carrier}
-use Rattle.reading.specs.Reading.{nodeAt, containersOf, readChecks}
+use Rattle.reading.specs.Reading.{containersOf, readChecks}
 
 -- the container of a tree, its features, and the checks of them all
 abbrev pub containerOf : List ℕ → Node

@@ -7,8 +7,8 @@ use Rattle.refusal.specs.Checks.{Check, check}
 use Rattle.cells.specs.Rows.{padded}
 use Rattle.record.specs.Record.{mostDependencies}
 use Rattle.tokens.specs.Steps.{pick}
-use Rattle.reading.specs.Nodes.{Node}
-use Rattle.reading.specs.Values.{valueOf, cellsOf}
+use Rattle.nodes.specs.Nodes.{Node}
+use Rattle.nodes.specs.Values.{valueOf, cellsOf}
 use Rattle.reading.specs.Features.{carries}
 
 -- which feature carries a phandle: none, or that at a position

@@ -10,8 +10,8 @@ use Rattle.names.specs.Names.{sameText, either}
 use Rattle.record.specs.declared.Feature.{Feature}
 use Rattle.record.specs.Record.{highestBit, mostDependencies}
 use Rattle.positions.specs.Below.{oneIf}
-use Rattle.reading.specs.Nodes.{Node}
-use Rattle.reading.specs.Values.{Value, missing, value, valueOf, isGiven, isCell, isCellOrMissing, isCells, number, lowBit, cellsOf}
+use Rattle.nodes.specs.Nodes.{Node}
+use Rattle.nodes.specs.Values.{Value, missing, value, valueOf, isGiven, isCell, isCellOrMissing, isCells, number, lowBit, cellsOf}
 
 -- the checks of each node, by the nodes before it
 unfoldable pub inOrder : (List Node → Node → List (Check Fault)) → List Node → List Node → List (Check Fault)

@@ -1,5 +1,3 @@
-pub mod Nodes
-pub mod Values
 pub mod Features
 pub mod Dependencies
 pub mod Reading

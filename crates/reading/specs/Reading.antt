@@ -6,7 +6,6 @@ use lib.ListN.{length}
 use Rattle.refusal.specs.Refusal.{Fault, fault, Placed, placed, refuseAt}
 use Rattle.refusal.specs.Checks.{Check, check, firstFault}
 use Rattle.cells.specs.Rows.{padded}
-use Rattle.cells.specs.Strings.{unended}
 use Rattle.header.specs.declared.Blocks.{Blocks}
 use Rattle.walk.specs.Walk.{treeTokens}
 use Rattle.walk.specs.Containers.{containerName}
@@ -14,16 +13,10 @@ use Rattle.walk.specs.Checked.{checkTree}
 use Rattle.walk.specs.declared.Layout.{Layout}
 use Rattle.record.specs.declared.Record.{Record}
 use Rattle.record.specs.Record.{mostFeatures, slotCount, noFeature, noFeatures}
-use Rattle.reading.specs.Nodes.{Node, node, nodesNamed, children}
-use Rattle.reading.specs.Values.{valueOf, isText, isCell, number}
+use Rattle.nodes.specs.Nodes.{Node, nodeAt, nodesNamed, children}
+use Rattle.nodes.specs.Values.{valueOf, isText, isCell, number}
 use Rattle.reading.specs.Features.{inOrder, nameChecks, featureChecks, featureOf}
 use Rattle.reading.specs.Dependencies.{carrierChecks, slotsOf}
-
--- the node at an index of a list; where there is none, one without anything
-unfoldable pub nodeAt : List Node → ℕ → Node
-nodeAt [] i = node 0 unended []
-nodeAt (n ∷ ns) zero = n
-nodeAt (n ∷ ns) (suc i) = nodeAt ns i
 
 -- "none is 10 at the structure's start, a second one 9 at its begin token"
 abbrev pub containerChecks : ℕ → List Node → List (Check Fault)

@@ -10,9 +10,8 @@ use Rattle.record.specs.declared.Cell.{Cell}
 use Rattle.record.specs.declared.Cell.the-variants.{Absent, Given}
 use Rattle.record.specs.Record.{mostFeatures, mostDependencies, slotCount, noFeature, featureAt, slotAt}
 use Rattle.record.specs.Cells.{cell, dependencyCount}
-use Rattle.reading.specs.Nodes.{Node, children}
-use Rattle.reading.specs.Values.{Value, missing, value, valueOf, number, cellsOf}
-use Rattle.reading.specs.Reading.{nodeAt}
+use Rattle.nodes.specs.Nodes.{Node, nodeAt, children}
+use Rattle.nodes.specs.Values.{Value, missing, value, valueOf, number, cellsOf}
 use Rattle.reading.specs.Accepted.{dependenciesOf}
 
 -- "Absent and zero differ"

@@ -1,7 +1,6 @@
 -- `reader::has_text` meets its contract. Assumes nothing.
-use mathlib.Core.Path.{subst}
 use native.Mathlib.Omega.{arith}
-use Rattle.reader.specs.Parts.{Shows}
+use Rattle.nodes.proofs.PlaceLaws.{shown}
 use Rattle.reader.proofs.ContainerLaws.{text-missing, text-given}
 use borrow.Author.Needs.{needs}
 use Rattle.reader.proofs.has_text.Statement.{statement}
@@ -18,7 +17,7 @@ enum-known-held c = search needs
 
 add-end : tie.Need-add-end
 add-end c =
-    let m = subst (Shows _ _) (c .before .held .given .1) (c .before .before .before .value-of .ensures) in
+    let m = shown _ _ _ _ (c .before .before .before .value-of .ensures) (c .before .held .given .1) (omega arith) in
     omega (arith, m .within)
 
 sub-is-string : tie.Need-sub-is-string
@@ -29,18 +28,18 @@ part-is-string-start c = search needs
 
 part-is-string-end : tie.Need-part-is-string-end
 part-is-string-end c =
-    let m = subst (Shows _ _) (c .before .held .given .1) (c .before .before .before .value-of .ensures) in
+    let m = shown _ _ _ _ (c .before .before .before .value-of .ensures) (c .before .held .given .1) (omega arith) in
     omega (arith, m .within)
 
 is-string-requires : tie.Need-is-string-requires
 is-string-requires c κs = search needs
 
 returns : tie.Need-returns
-returns c = text-missing _ (subst (Shows _ _) (c .enum-told .given .1) (c .before .before .value-of .ensures))
+returns c = text-missing _ (shown _ _ _ _ (c .before .before .value-of .ensures) (c .enum-told .given .1) (omega arith))
 
 returns-2 : tie.Need-returns-2
 returns-2 c =
-    let m = subst (Shows _ _) (c .before .before .before .held .given .1) (c .before .before .before .before .before .value-of .ensures) in
+    let m = shown _ _ _ _ (c .before .before .before .before .before .value-of .ensures) (c .before .before .before .held .given .1) (omega arith) in
     text-given _ m (c .is-string .ensures)
 
 pub has-text-spec : {M : Type 1} → statement M

@@ -1,48 +1,48 @@
 -- `reader::read_children` meets its contract. Assumes nothing.
-use Rattle.reader.proofs.ChildrenLaws.{too-many, contained, name-repeated, all-read}
+use Rattle.reader.proofs.ChildrenLaws.{too-many, within, contained, name-repeated, all-read}
 use native.Mathlib.Omega.{arith}
 use borrow.Author.Needs.{needs}
 use Rattle.reader.proofs.read_children.Statement.{statement}
 use Rattle.reader.proofs.read_children.Tie as tie
 
-features-of-requires : tie.Need-features-of-requires
-features-of-requires c κs = search needs
+child-places-requires : tie.Need-child-places-requires
+child-places-requires c κs = search needs
 
 refused-requires : tie.Need-refused-requires
 refused-requires c κs = search needs
 
 returns : tie.Need-returns
-returns c = λ n w. too-many w (c .before .before .features-of .ensures) (c .before .if1 .taken) (c .refused .ensures)
+returns c = λ n w. too-many w (c .before .before .child-places .ensures) (c .before .if1 .taken) (c .refused .ensures)
 
 repeated-name-requires : tie.Need-repeated-name-requires
-repeated-name-requires c κs =
-    let f = c .before .features-of .ensures in
-    omega (arith, f .count, f .few)
+repeated-name-requires c κs = search needs
 
 mul-p : tie.Need-mul-p
-mul-p c = search needs
+mul-p c =
+    let w = c .before .before .before .before .before .pre .1 .1 in
+    omega (arith, within w (c .before .before .before .child-places .ensures))
 
 element-copy-out-p : tie.Need-element-copy-out-p
 element-copy-out-p c =
-    let f = c .before .before .before .features-of .ensures in
-    omega (arith, f .count, f .few)
+    let w = c .before .before .before .before .before .pre .1 .1 in
+    omega (arith, within w (c .before .before .before .child-places .ensures))
 
 refused-requires-2 : tie.Need-refused-requires-2
 refused-requires-2 c κs = search needs
 
 returns-2 : tie.Need-returns-2
 returns-2 c = λ n w.
-    name-repeated w (c .before .before .before .before .before .features-of .ensures) (c .before .before .before .before .if1 .left) (c .before .before .before .repeated-name .ensures) (c .before .before .if2 .taken)
+    name-repeated w (c .before .before .before .before .before .child-places .ensures) (c .before .before .before .before .if1 .left) (c .before .before .before .repeated-name .ensures) (c .before .before .if2 .taken)
     (c .refused2 .ensures)
 
 read-places-requires : tie.Need-read-places-requires
 read-places-requires c κs =
     let p = c .before .before .before .before .before .pre in
-    (p .0, (_, contained (p .1 .1) (c .before .before .before .features-of .ensures) (c .before .before .if1 .left)))
+    (p .0, (_, contained (p .1 .1) (c .before .before .before .child-places .ensures) (c .before .before .if1 .left)))
 
 returns-3 : tie.Need-returns-3
 returns-3 c = λ n w.
-    let f = c .before .before .before .before .features-of .ensures in
+    let f = c .before .before .before .before .child-places .ensures in
     let m = c .before .before .before .if1 .left in
     all-read w f m (c .before .before .repeated-name .ensures) (c .before .if2 .left) (c .read-places .ensures _ (contained w f m))
 
@@ -50,7 +50,7 @@ pub read-children-spec : {M : Type 1} → statement M
 read-children-spec =
     tie.close
     (tie.spec
-    features-of-requires
+    child-places-requires
     refused-requires
     returns
     repeated-name-requires

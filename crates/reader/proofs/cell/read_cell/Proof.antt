@@ -1,7 +1,9 @@
 -- `reader::cell::read_cell` meets its contract. Assumes nothing.
 use mathlib.Core.Path.{sym, subst}
-use Rattle.reader.specs.Parts.{Shows, CellIs}
+use Rattle.nodes.proofs.PlaceLaws.{shown}
+use Rattle.reader.specs.Parts.{CellIs}
 use Rattle.reader.proofs.CellReadLaws.{cell-given, cell-long, cell-missing, cell-absent}
+use native.Mathlib.Omega.{arith}
 use borrow.Author.Needs.{needs}
 use Rattle.reader.proofs.cell.read_cell.Statement.{statement}
 use Rattle.reader.proofs.cell.read_cell.Tie as tie
@@ -17,7 +19,7 @@ no-cell-requires c κs = search needs
 
 returns : tie.Need-returns
 returns c =
-    let m = subst (Shows _ _) (c .before .before .before .held .given .1) (c .before .before .before .before .before .value-of .ensures) in
+    let m = shown _ _ _ _ (c .before .before .before .before .before .value-of .ensures) (c .before .before .before .held .given .1) (omega arith) in
     subst (CellIs _ _) (sym (c .no-cell .ensures)) (cell-long m _ (c .before .if1 .taken))
 
 cell-at-requires : tie.Need-cell-at-requires
@@ -31,17 +33,17 @@ no-cell-requires-2 c κs = search needs
 
 returns-2 : tie.Need-returns-2
 returns-2 c =
-    let m = subst (Shows _ _) (c .before .before .enum-told .given .1) (c .before .before .before .before .value-of .ensures) in
+    let m = shown _ _ _ _ (c .before .before .before .before .value-of .ensures) (c .before .before .enum-told .given .1) (omega arith) in
     subst (CellIs _ _) (sym (c .no-cell2 .ensures)) (cell-missing m (c .before .if2 .taken))
 
 returns-3 : tie.Need-returns-3
 returns-3 c =
-    let m = subst (Shows _ _) (c .before .before .before .held .given .1) (c .before .before .before .before .before .value-of .ensures) in
+    let m = shown _ _ _ _ (c .before .before .before .before .before .value-of .ensures) (c .before .before .before .held .given .1) (omega arith) in
     cell-given m _ (c .before .if1 .left) (c .cell-at .ensures)
 
 returns-4 : tie.Need-returns-4
 returns-4 c =
-    let m = subst (Shows _ _) (c .before .enum-told .given .1) (c .before .before .before .value-of .ensures) in
+    let m = shown _ _ _ _ (c .before .before .before .value-of .ensures) (c .before .enum-told .given .1) (omega arith) in
     cell-absent m (c .if2 .left)
 
 pub read-cell-spec : {M : Type 1} → statement M

@@ -1,6 +1,5 @@
 -- `reader::dependencies::resolve_feature` meets its contract. Assumes nothing.
-use mathlib.Core.Path.{subst}
-use Rattle.reader.specs.Parts.{Shows}
+use Rattle.nodes.proofs.PlaceLaws.{shown}
 use Rattle.reader.proofs.PropertyLaws.{count}
 use Rattle.reader.proofs.CellSlotLaws.{no-dependencies, dependencies-lie}
 use native.Mathlib.Omega.{arith}
@@ -22,16 +21,16 @@ enum-known-held c = search needs
 
 resolve-cells-requires : tie.Need-resolve-cells-requires
 resolve-cells-requires c κs =
-    let m = subst (Shows _ _) (c .before .before .held .given .1) (c .before .before .before .before .value-of .ensures) in
+    let m = shown _ _ _ _ (c .before .before .before .before .value-of .ensures) (c .before .before .held .given .1) (omega arith) in
     let p = c .before .before .before .before .before .before .before .pre in
     (omega (arith, m .within), p .1, omega (arith, count m))
 
 returns : tie.Need-returns
-returns c = no-dependencies _ _ _ _ (subst (Shows _ _) (c .enum-told .given .1) (c .before .before .value-of .ensures))
+returns c = no-dependencies _ _ _ _ (shown _ _ _ _ (c .before .before .value-of .ensures) (c .enum-told .given .1) (omega arith))
 
 returns-2 : tie.Need-returns-2
 returns-2 c =
-    let m = subst (Shows _ _) (c .before .before .before .held .given .1) (c .before .before .before .before .before .value-of .ensures) in
+    let m = shown _ _ _ _ (c .before .before .before .before .before .value-of .ensures) (c .before .before .before .held .given .1) (omega arith) in
     dependencies-lie _ _ _ _ m (c .resolve-cells .ensures)
 
 pub resolve-feature-spec : {M : Type 1} → statement M

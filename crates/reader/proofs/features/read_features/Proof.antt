@@ -5,7 +5,7 @@ use Prim.Native.Nat.{_-_, _≤_}
 use lib.ListN.{length, replicate}
 use Rattle.record.specs.declared.Feature.{Feature}
 use Rattle.record.specs.Record.{mostFeatures}
-use Rattle.reading.specs.Nodes.{Node}
+use Rattle.nodes.specs.Nodes.{Node}
 use Rattle.reader.specs.Parts.{AtPlaces, SomeNodes}
 use Rattle.reader.proofs.RecordLaws.{ReadBelow, below-begins, place-low, below-more, below-refused, below-done}
 use borrow.Author.Needs.{needs}

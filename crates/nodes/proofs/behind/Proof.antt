@@ -1,10 +1,10 @@
--- `reader::nodes::behind` meets its contract. Assumes nothing.
+-- `nodes::behind` meets its contract. Assumes nothing.
 use mathlib.Core.Path.{sym, _∙_}
 use native.Mathlib.Omega.{arith}
-use Rattle.reader.proofs.BehindLaws.{name-ends, behind-name, behind-unended}
+use Rattle.nodes.proofs.BehindLaws.{name-ends, behind-name, behind-unended}
 use borrow.Author.Needs.{needs}
-use Rattle.reader.proofs.nodes.behind.Statement.{statement}
-use Rattle.reader.proofs.nodes.behind.Tie as tie
+use Rattle.nodes.proofs.behind.Statement.{statement}
+use Rattle.nodes.proofs.behind.Tie as tie
 
 text-end-requires : tie.Need-text-end-requires
 text-end-requires c κs = search needs

@@ -13,7 +13,7 @@ use Rattle.names.specs.Names.{sameText}
 use Rattle.positions.specs.Bits.{bit}
 use Rattle.tokens.specs.Steps.{pick}
 use Rattle.tokens.specs.Tokens.{Token, beginNode, endNode, property, nop, end, fault}
-use Rattle.reading.specs.Nodes.{Node}
+use Rattle.nodes.specs.Nodes.{Node}
 
 -- what a node has of a property
 pub data Value : Type 0 where

@@ -1,4 +1,4 @@
-// Nodes in a tree: the value of a property, the direct children.
+// Nodes in a tree: the value of a property, the direct children, their names. Every public function takes any tree, blocks and place.
 use cells::Ending;
 use header::Blocks;
 use properties::StringsBlock;
@@ -6,48 +6,46 @@ use record::MOST_FEATURES;
 use tokens::Cursor;
 use tokens::Step;
 ghost use mathlib.Core.Path.{_≡_};
-ghost use Prim.Native.Nat.{_≤_, _<_};
+ghost use Prim.Native.Nat.{_≤_, _<_, min};
 ghost use lib.ListN.{length as length-of};
 ghost use Rattle.cells.specs.Strings.{textAt};
 ghost use Rattle.record.specs.Record.{mostFeatures};
 ghost use Rattle.walk.specs.Walk.{treeTokens};
-ghost use Rattle.reading.specs.Nodes.{childrenAt};
-ghost use Rattle.reading.specs.Values.{valueIn};
-ghost use Rattle.reader.specs.Parts.{Shows, behindOf, Moved, Gathers, sameNames, FirstRepeated};
+ghost use Rattle.nodes.specs.Nodes.{childrenAt};
+ghost use Rattle.nodes.specs.Places.{tokensIn, heldIn, behindOf, childPlaces, sameNames, firstRepeated};
+ghost use Rattle.nodes.specs.Parts.{Moved};
 
 // What a node has of a property: nothing, or where its value begins and how many bytes it has.
-pub(crate) enum Held {
+pub enum Held {
     Missing,
     At { from: usize, length: usize },
 }
 
 // The token at a place of a node's contents: a child begins, with where its name begins and what is behind its begin token; or it is
 // passed, with how deep the tokens behind it are inside the node's own nodes.
-pub(crate) enum Move {
+enum Move {
     Child { at: usize, name: usize, next: usize },
     Past { depth: usize, next: usize },
 }
 
 // A node: its begin token's offset, and where its name and the tokens behind it begin.
-pub(crate) struct NodePlace {
-    pub(crate) at: usize,
-    pub(crate) name: usize,
-    pub(crate) behind: usize,
+pub struct NodePlace {
+    pub at: usize,
+    pub name: usize,
+    pub behind: usize,
 }
 
-// The features of a container, in tree order: at most 64, whether there is one more, and where that begins.
-pub(crate) struct Features {
-    pub(crate) count: usize,
-    pub(crate) more: bool,
-    pub(crate) over: usize,
-    pub(crate) nodes: [NodePlace; MOST_FEATURES],
+// The children of a node, in tree order: the places of at most 64, whether there is one more, and where that begins.
+pub struct ChildPlaces {
+    pub count: usize,
+    pub more: bool,
+    pub over: usize,
+    pub places: [NodePlace; MOST_FEATURES],
 }
 
-// The value of the property of a name, among those that begin at `first`.
-pub(crate) fn value_of(tree: &[u8], b: Blocks, first: usize, name: &[u8]) -> Held
+fn value_within(tree: &[u8], b: Blocks, first: usize, name: &[u8]) -> Held
     requires { ⌜ b .end ≤ length-of (now tree) ⌝ }
-    ensures { λ r.
-        ⌜ Shows (now (tree .entry)) (valueIn (now (name .entry)) (treeTokens (now (tree .entry)) b first)) r ⌝ }
+    ensures { λ r. ⌜ r ≡ heldIn (now (name .entry)) (treeTokens (now (tree .entry)) b first) ⌝ }
 {
     let end = b.end;
     let strings = StringsBlock {
@@ -88,8 +86,18 @@ pub(crate) fn value_of(tree: &[u8], b: Blocks, first: usize, name: &[u8]) -> Hel
     Held::Missing
 }
 
+// The value of the property of a name, among those that begin at `first`; missing where the blocks do not lie in the tree.
+pub fn value_of(tree: &[u8], b: Blocks, first: usize, name: &[u8]) -> Held
+    ensures { λ r. ⌜ r ≡ heldIn (now (name .entry)) (tokensIn (now (tree .entry)) b first) ⌝ }
+{
+    if tree.len() < b.end {
+        return Held::Missing;
+    }
+    value_within(tree, b, first, name)
+}
+
 // Where the tokens behind a begin token begin, if its name begins at `from`; the block's end, if the name does not end.
-pub(crate) fn behind(tree: &[u8], end: usize, from: usize) -> usize
+pub fn behind(tree: &[u8], end: usize, from: usize) -> usize
     ensures { λ r. ⌜ r ≡ behindOf from end (textAt (now (tree .entry)) from end) ⌝ }
 {
     let ending = cells::text_end(tree, from, end);
@@ -144,20 +152,19 @@ fn move_at(tree: &[u8], b: Blocks, depth: usize, at: usize) -> Move
 }
 
 // The direct children of a node whose contents begin at `first`.
-pub(crate) fn features_of(tree: &[u8], b: Blocks, first: usize) -> Features
-    ensures { λ r.
-        ⌜ Gathers (now (tree .entry)) b (childrenAt 0 (treeTokens (now (tree .entry)) b first)) r ⌝ }
+pub fn child_places(tree: &[u8], b: Blocks, first: usize) -> ChildPlaces
+    ensures { λ r. ⌜ r ≡ childPlaces (b .end) (childrenAt 0 (treeTokens (now (tree .entry)) b first)) ⌝ }
 {
     let none = NodePlace {
         at: 0,
         name: 0,
         behind: 0,
     };
-    let mut fs = Features {
+    let mut fs = ChildPlaces {
         count: 0,
         more: false,
         over: 0,
-        nodes: [none; MOST_FEATURES],
+        places: [none; MOST_FEATURES],
     };
     let mut depth: usize = 0;
     let mut at = first;
@@ -171,7 +178,7 @@ pub(crate) fn features_of(tree: &[u8], b: Blocks, first: usize) -> Features
                     fs.over = t;
                     return fs;
                 }
-                fs.nodes[n] = NodePlace {
+                fs.places[n] = NodePlace {
                     at: t,
                     name,
                     behind: next,
@@ -189,20 +196,23 @@ pub(crate) fn features_of(tree: &[u8], b: Blocks, first: usize) -> Features
     fs
 }
 
-// Document 01: "the first earlier feature with the same name ends the search". The first position whose feature has the name of an
-// earlier one; the count where there is none.
-pub(crate) fn repeated_name(tree: &[u8], b: Blocks, fs: Features) -> usize
-    requires { ⌜ fs .count ≤ mostFeatures ⌝ }
-    ensures { λ r. ⌜ FirstRepeated (sameNames (now (tree .entry)) (b .end) (fs .nodes)) (fs .count) r ⌝ }
+// Document 01: "the first earlier feature with the same name ends the search". The first position whose node has the name of an earlier
+// one; the count where there is none, and 64 where the count is above that.
+pub fn repeated_name(tree: &[u8], b: Blocks, fs: ChildPlaces) -> usize
+    ensures { λ r.
+        ⌜ r ≡ firstRepeated
+        (sameNames (now (tree .entry)) (b .end) (fs .places))
+        (min (fs .count) mostFeatures) ⌝ }
 {
     let end = b.end;
-    let mut found = fs.count;
+    let count = cells::least(fs.count, MOST_FEATURES);
+    let mut found = count;
     let mut i: usize = 0;
-    'search: while i < fs.count {
-        let p = fs.nodes[i];
+    'search: while i < count {
+        let p = fs.places[i];
         let mut j: usize = 0;
         while j < i {
-            let q = fs.nodes[j];
+            let q = fs.places[j];
             if matching::same_name(tree, q.name, p.name, end) {
                 found = i;
                 break 'search;

@@ -1,5 +1,5 @@
 -- The search for the first position that is the same as an earlier one, row by row. Assumes nothing.
-use mathlib.Core.Path.{_≡_, _∙_}
+use mathlib.Core.Path.{_≡_, refl, _∙_}
 use mathlib.Core.Bool.{Bool, true, false}
 use mathlib.Core.List.{List}
 use Prim.Native.Nat.{ℕ, _+_, _<_, _≤_}
@@ -8,8 +8,12 @@ use native.Mathlib.Decide.{decLt}
 use lib.ListN.{getD}
 use Rattle.cells.specs.Strings.{textAt}
 use Rattle.names.specs.Names.{sameText}
-use Rattle.reader.specs.declared.nodes.NodePlace.{NodePlace}
-use Rattle.reader.specs.Parts.{noPlace, sameNames, FirstRepeated}
+use Rattle.nodes.specs.declared.NodePlace.{NodePlace}
+use Rattle.positions.specs.Below.{some}
+use Rattle.positions.proofs.BelowLaws.{no-way, some-at, some-is}
+use Rattle.positions.proofs.FirstLaws.{first-passes, first-before, first-within, first-is}
+use Rattle.nodes.specs.Places.{noPlace, sameNames, firstRepeated}
+use Rattle.nodes.specs.Parts.{FirstRepeated}
 
 -- the test of two names, as the code makes it
 pub same-is : (tree : List ℕ) (stop : ℕ) (ps : List NodePlace) (i j : ℕ) {p : NodePlace} {r : Bool} → p ≡ getD ps i noPlace
@@ -17,7 +21,41 @@ pub same-is : (tree : List ℕ) (stop : ℕ) (ps : List NodePlace) (i j : ℕ) {
 unfolding sameNames
 same-is tree stop ps i j e k = k ∙ rw e
 
+-- some position passes a test, or none
+none-pass : (n : ℕ) (p : ℕ → Bool) → ((j : ℕ) → j < n → p j ≡ false) → some n p ≡ false
+none-pass n p h = go (some n p) refl
+  where
+    go : (s : Bool) → some n p ≡ s → s ≡ false
+    go true e = let j = some-is n p e in no-way (p (j .0)) (j .2) (h (j .0) (j .1))
+    go false e = refl
+
+none-passes : (n : ℕ) (p : ℕ → Bool) → some n p ≡ false → (j : ℕ) → j < n → p j ≡ false
+none-passes n p h j l = go (p j) refl
+  where
+    go : (s : Bool) → p j ≡ s → s ≡ false
+    go true e = no-way (some n p) (some-at n p j l e) h
+    go false e = refl
+
 module _ (same : ℕ → ℕ → Bool) (n : ℕ) where
+  -- what the definition says, both ways
+  pub is-repeated : FirstRepeated same n (firstRepeated same n)
+  unfolding firstRepeated
+  is-repeated =
+      let p : ℕ → Bool = λ i. some i (same i) in
+      let r = firstRepeated same n in
+      record {
+        within = first-within n p;
+        before = λ i j l k. none-passes i (same i) (first-before n p i l) j k;
+        there = λ l. let j = some-is r (same r) (first-passes n p l) in (j .0, (j .1, j .2));
+      }
+
+  pub repeated-is : {r : ℕ} → FirstRepeated same n r → r ≡ firstRepeated same n
+  unfolding firstRepeated
+  repeated-is {r} f =
+      first-is n (λ i. some i (same i)) r (f .within)
+      (λ l. let j = f .there l in some-at r (same r) (j .0) (j .1 .0) (j .1 .1))
+      (λ i l. none-pass i (same i) (λ j k. f .before i j l k))
+
   -- no position below i is the same as an earlier one
   pub record Searched (i : ℕ) : Type 0 where
     pub low : i ≤ n

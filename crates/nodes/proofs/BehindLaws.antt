@@ -8,7 +8,7 @@ use Rattle.cells.specs.Strings.{Text, ended, unended, textAt, endingOf}
 use Rattle.cells.specs.declared.Ending.the-variants.{At, Nowhere}
 use Rattle.cells.proofs.Strings.{text-within}
 use Rattle.tokens.specs.Steps.{padded}
-use Rattle.reader.specs.Parts.{behindOf}
+use Rattle.nodes.specs.Places.{behindOf}
 
 -- a name whose zero byte stands at a place
 pub record NameEnds (s : List ℕ) (from stop place : ℕ) : Type 0 where

@@ -1,7 +1,7 @@
 -- The nodes of a tree, in a list of its tokens. NOPs are skipped.
 use Prim.Native.Nat.{ℕ, zero, suc}
 use mathlib.Core.List.{List, [], _∷_}
-use Rattle.cells.specs.Strings.{Text, ended}
+use Rattle.cells.specs.Strings.{Text, ended, unended}
 use Rattle.names.specs.Names.{sameText}
 use Rattle.tokens.specs.Steps.{pick}
 use Rattle.tokens.specs.Tokens.{Token, beginNode, endNode, property, nop, end, fault}
@@ -14,6 +14,12 @@ pub record Node : Type 0 where
 
 abbrev pub node : ℕ → Text → List Token → Node
 node at name behind = record { at = at; name = name; behind = behind }
+
+-- the node at an index of a list; where there is none, one without anything
+unfoldable pub nodeAt : List Node → ℕ → Node
+nodeAt [] i = node 0 unended []
+nodeAt (n ∷ ns) zero = n
+nodeAt (n ∷ ns) (suc i) = nodeAt ns i
 
 -- the nodes of a name, at any level, in tree order
 unfoldable pub nodesNamed : List ℕ → List Token → List Node

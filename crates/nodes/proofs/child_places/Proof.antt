@@ -1,13 +1,13 @@
--- `reader::nodes::features_of` meets its contract: the children of the tokens left decide the whole. Assumes nothing.
+-- `nodes::child_places` meets its contract: the children of the tokens left decide the whole. Assumes nothing.
 use mathlib.Core.Path.{subst}
 use Prim.Native.Nat.{_-_}
-use Rattle.reader.specs.Parts.{Moved}
-use Rattle.reader.proofs.MoveLaws.{child-on, past-on}
-use Rattle.reader.proofs.GatherLaws.{Gathering, gather-begins, gather-child, gather-past, gathered-over, gathered}
+use Rattle.nodes.specs.Parts.{Moved}
+use Rattle.nodes.proofs.MoveLaws.{child-on, past-on}
+use Rattle.nodes.proofs.GatherLaws.{Gathering, gather-begins, gather-size, gather-child, gather-past, gathered-over, gathered}
 use borrow.Author.Needs.{needs}
 use native.Mathlib.Omega.{arith}
-use Rattle.reader.proofs.nodes.features_of.Statement.{statement}
-use Rattle.reader.proofs.nodes.features_of.Tie as tie
+use Rattle.nodes.proofs.child_places.Statement.{statement}
+use Rattle.nodes.proofs.child_places.Tie as tie
 
 abbrev Inv-loop : tie.InvT-loop
 Inv-loop tree b first fs₀ depth₀ at₀ fs depth at = Gathering tree b first fs depth at
@@ -33,7 +33,7 @@ mul-t19 c = search needs
 element-set-from-fs : tie.Need-element-set-from-fs Inv-loop μ-loop
 element-set-from-fs c =
     let g = c .before .before .before .before .before .before .before .loop .inv in
-    omega (arith, g .size)
+    omega (arith, gather-size _ _ g)
 
 add-fs : tie.Need-add-fs Inv-loop μ-loop
 add-fs c =
@@ -58,8 +58,8 @@ loop-again-2 c = gather-past _ _ (c .before .before .before .before .before .bef
 returns-2 : tie.Need-returns-2 Inv-loop μ-loop
 returns-2 c = gathered _ _ (c .before .before .loop .inv) (c .if1 .left)
 
-pub features-of-spec : {M : Type 1} → statement M
-features-of-spec =
+pub child-places-spec : {M : Type 1} → statement M
+child-places-spec =
     tie.close
     (tie.spec
     Inv-loop

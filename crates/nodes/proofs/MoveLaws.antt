@@ -1,40 +1,43 @@
 -- The children of a node by the token at a place. Assumes nothing.
-use mathlib.Core.Path.{_≡_, refl, sym, _∙_}
+use mathlib.Core.Path.{_≡_, refl, sym, ap, _∙_}
 use mathlib.Core.List.{List, [], _∷_}
 use Prim.Native.Nat.{ℕ, zero, suc, _+_, _-_, _<_, _≤_}
 use native.Mathlib.Omega.{arith}
 use native.Mathlib.Numerals.{add-one}
 use Rattle.cells.specs.Strings.{Text, ended, unended, textAt}
 use Rattle.tokens.specs.declared.Cursor.{Cursor}
-use Rattle.tokens.specs.declared.Step.{Step}
 use Rattle.tokens.specs.declared.Step.the-variants.{BeginNode, EndNode, Property, Nop, End, Fault}
 use Rattle.tokens.specs.Steps.{stepAt}
-use Rattle.tokens.specs.Tokens.{Token, beginNode, endNode, end, tokens, afterBegin}
-use Rattle.tokens.proofs.TokenList.{tokens-step, follow, view, Is, begins as isBegin, ends as isEnd, holds, skips, stops as isStop, cut, unknown, none, seen, property-moves, nop-moves, end-node-moves}
+use Rattle.tokens.specs.Tokens.{Token, beginNode, endNode, tokens, afterBegin}
+use Rattle.tokens.proofs.TokenList.{tokens-step, Is, begins as isBegin, seen, property-moves, nop-moves, end-node-moves}
 use Rattle.header.specs.declared.Blocks.{Blocks}
 use Rattle.walk.specs.Walk.{nameIn, treeTokens}
-use Rattle.reader.specs.declared.nodes.Move.the-variants.{Child, Past}
-use Rattle.reading.specs.Nodes.{childrenAt}
-use Rattle.reading.specs.Values.{valueIn}
-use Rattle.reader.specs.Parts.{behindOf, Alike, Moved, child, past}
-use Rattle.reader.proofs.ValueLaws.{value-past}
+use Rattle.nodes.specs.declared.Move.the-variants.{Child, Past}
+use Rattle.nodes.specs.declared.NodePlace.{NodePlace}
+use Rattle.nodes.specs.Nodes.{Node, node, childrenAt}
+use Rattle.nodes.specs.Values.{missing, valueIn}
+use Rattle.nodes.specs.Places.{behindOf}
+use Rattle.nodes.specs.Parts.{Alike, Moved, child, past}
+use Rattle.nodes.proofs.ValueLaws.{tokens-past}
+
+abbrev place : ℕ → ℕ → ℕ → NodePlace
+place at name behind = record { at = at; name = name; behind = behind }
 
 -- no child begins past the end of the block
 pub children-past : (s : List ℕ) (stop : ℕ) (names : ℕ → Text) (at : ℕ) → stop ≤ at → (depth : ℕ) → childrenAt depth (tokens s stop names at) ≡ []
 unfolding childrenAt
-children-past s stop names at h depth = rw (tokens-step s stop names at refl) (go (view s stop at))
-  where
-    go : {x : Step} → Is s stop at x → childrenAt depth (follow s stop names (tokens s stop names) x) ≡ []
-    go (isBegin r e) = absurd (omega arith)
-    go (isEnd r e) = absurd (omega arith)
-    go (holds r e) = absurd (omega arith)
-    go (skips r e) = absurd (omega arith)
-    go (isStop r e) = refl
-    go (cut r e k) = refl
-    go (unknown r a b c d e) = refl
-    go (none r) = refl
+children-past s stop names at h depth = rw (tokens-past s stop names at h)
+
+-- nor does a property
+value-past : (s : List ℕ) (stop : ℕ) (names : ℕ → Text) (at : ℕ) → stop ≤ at → (n : List ℕ) → valueIn n (tokens s stop names at) ≡ missing
+unfolding valueIn
+value-past s stop names at h n = rw (tokens-past s stop names at h)
 
 -- the children of a node, by the token that comes first
+children-child : (t : ℕ) (name : Text) (ts : List Token) → childrenAt 0 (beginNode t name ∷ ts) ≡ node t name ts ∷ childrenAt 1 ts
+unfolding childrenAt
+children-child t name ts = refl
+
 children-deeper : (depth t : ℕ) (name : Text) (ts : List Token) → (depth ≡ 0 → ⊥) → childrenAt depth (beginNode t name ∷ ts) ≡ childrenAt (depth + 1) ts
 unfolding childrenAt
 children-deeper zero t name ts z = absurd (z refl)
@@ -56,7 +59,7 @@ module _ (tree : List ℕ) (b : Blocks) where
   alike-behind from (ended name) = record { values = λ n. refl; nodes = λ depth. refl }
   alike-behind from unended =
       record {
-        values = λ n. sym (value-past tree (b .end) (nameIn tree b) n (b .end) (omega arith));
+        values = λ n. sym (value-past tree (b .end) (nameIn tree b) (b .end) (omega arith) n);
         nodes = λ depth. sym (children-past tree (b .end) (nameIn tree b) (b .end) (omega arith) depth);
       }
 
@@ -85,7 +88,15 @@ module _ (tree : List ℕ) (b : Blocks) where
       like = rw q (alike-behind (c .at) (textAt tree (c .at) (b .end)))
 
       pub move-child : depth ≡ 0 → Moved tree b depth at (Child t (c .at) next)
-      move-child z = child z (tokens-step tree (b .end) (nameIn tree b) at e) like on
+      move-child z =
+          let w = begins (seen tree (b .end) at e) in
+          let name = textAt tree (c .at) (b .end) in
+          let k : t + 4 ≡ c .at = omega (arith, w .own, w .named) in
+          child {n = node t name (afterBegin (treeTokens tree b) (c .at) name)}
+          (rw (z, tokens-step tree (b .end) (nameIn tree b) at e) (children-child t name _)
+          ∙ ap (λ (ns : List Node). node t name (afterBegin (treeTokens tree b) (c .at) name) ∷ ns) (like .nodes 1))
+          (ap (λ (x : ℕ). place t x (behindOf x (b .end) name)) k ∙ ap (place t (c .at)) (sym q))
+          on
 
       pub move-deeper : (depth ≡ 0 → ⊥) → Moved tree b depth at (Past (depth + 1) next)
       move-deeper z =
@@ -123,7 +134,7 @@ module _ (tree : List ℕ) (b : Blocks) where
   -- a move goes on
   module _ (depth at : ℕ) where
     pub child-on : {t name next : ℕ} → Moved tree b depth at (Child t name next) → at < next
-    child-on (child z e like on) = on
+    child-on (child e p on) = on
 
     pub past-on : {d next : ℕ} → Moved tree b depth at (Past d next) → at < next
     past-on (past e on l) = on

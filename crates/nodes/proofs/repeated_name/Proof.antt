@@ -1,34 +1,37 @@
--- `reader::nodes::repeated_name` meets its contract. Assumes nothing.
+-- `nodes::repeated_name` meets its contract. Assumes nothing.
 use borrow.Author.Needs.{needs}
-use mathlib.Core.Path.{_≡_, refl, sym, _∙_}
+use mathlib.Core.Path.{_≡_, refl, sym, ap, _∙_}
 use native.Mathlib.Omega.{arith}
-use Prim.Native.Nat.{_-_, _≤_}
+use Prim.Native.Nat.{_-_, min}
 use lib.ListN.{getD}
 use Rattle.record.specs.Record.{mostFeatures}
-use Rattle.reader.specs.Parts.{noPlace, sameNames}
-use Rattle.reader.proofs.SearchLaws.{same-is, Searched, Compared, search-begins, row-begins, row-more, row-done, search-found, search-none}
-use Rattle.reader.proofs.nodes.repeated_name.Statement.{statement}
-use Rattle.reader.proofs.nodes.repeated_name.Tie as tie
+use Rattle.nodes.specs.Places.{noPlace, sameNames, firstRepeated}
+use Rattle.nodes.proofs.SearchLaws.{same-is, Searched, Compared, repeated-is, search-begins, row-begins, row-more, row-done, search-found, search-none}
+use Rattle.nodes.proofs.repeated_name.Statement.{statement}
+use Rattle.nodes.proofs.repeated_name.Tie as tie
 
 abbrev Inv-loop : tie.InvT-loop
-Inv-loop tree fs end found₀ i p j₀ found j =
-    (fs .count ≤ mostFeatures)
-    × (found ≡ fs .count)
-    × (p ≡ getD (fs .nodes) i noPlace)
-    × Compared (sameNames tree end (fs .nodes)) (fs .count) i j
+Inv-loop tree fs end count found₀ i p j₀ found j =
+    (count ≡ min (fs .count) mostFeatures)
+    × (found ≡ count)
+    × (p ≡ getD (fs .places) i noPlace)
+    × Compared (sameNames tree end (fs .places)) count i j
 
 abbrev μ-loop : tie.MeasureT-loop
-μ-loop tree fs end found₀ i p j₀ found j = i - j
+μ-loop tree fs end count found₀ i p j₀ found j = i - j
 
 abbrev Inv-search : tie.InvT-search
-Inv-search tree fs end found₀ i₀ found i =
-    (fs .count ≤ mostFeatures) × (found ≡ fs .count) × Searched (sameNames tree end (fs .nodes)) (fs .count) i
+Inv-search tree fs end count found₀ i₀ found i =
+    (count ≡ min (fs .count) mostFeatures) × (found ≡ count) × Searched (sameNames tree end (fs .places)) count i
 
 abbrev μ-search : tie.MeasureT-search
-μ-search tree fs end found₀ i₀ found i = fs .count - i
+μ-search tree fs end count found₀ i₀ found i = count - i
+
+least-requires : tie.Need-least-requires Inv-loop μ-loop Inv-search μ-search
+least-requires c κs = search needs
 
 search-holds : tie.Need-search-holds Inv-loop μ-loop Inv-search μ-search
-search-holds c = (c .before .pre, refl, search-begins _ _)
+search-holds c = (c .least .ensures, refl, search-begins _ _)
 
 mul-p : tie.Need-mul-p Inv-loop μ-loop Inv-search μ-search
 mul-p c = omega arith
@@ -77,12 +80,13 @@ search-again c =
 returns : tie.Need-returns Inv-loop μ-loop Inv-search μ-search
 returns c =
     let s = c .before .search .inv in
-    search-none _ _ (s .2) (omega arith) (s .1)
+    repeated-is _ _ (search-none _ _ (s .2) (omega arith) (s .1)) ∙ ap (firstRepeated _) (s .0)
 
 returns-2 : tie.Need-returns-2 Inv-loop μ-loop Inv-search μ-search
 returns-2 c =
     let l = c .before .before .before .before .loop .inv in
-    search-found _ _ _ (l .3) (omega arith) (sym (same-is _ _ _ _ _ (l .2) (c .before .same-name .ensures)) ∙ c .if1 .taken)
+    let same = sym (same-is _ _ _ _ _ (l .2) (c .before .same-name .ensures)) ∙ c .if1 .taken in
+    repeated-is _ _ (search-found _ _ _ (l .3) (omega arith) same) ∙ ap (firstRepeated _) (l .0)
 
 pub repeated-name-spec : {M : Type 1} → statement M
 repeated-name-spec =
@@ -92,6 +96,7 @@ repeated-name-spec =
     μ-loop
     Inv-search
     μ-search
+    least-requires
     search-holds
     mul-p
     element-copy-out-p

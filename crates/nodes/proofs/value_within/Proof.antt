@@ -1,4 +1,4 @@
--- `reader::nodes::value_of` meets its contract: what is left of the properties decides the whole. Assumes nothing.
+-- `nodes::value_within` meets its contract: what is left of the properties decides the whole. Assumes nothing.
 use borrow.Author.Needs.{needs}
 use mathlib.Core.Path.{_≡_, refl, sym, _∙_}
 use native.Mathlib.Omega.{arith}
@@ -7,16 +7,16 @@ use lib.ListN.{length}
 use Rattle.tokens.specs.Tokens.{tokens}
 use Rattle.tokens.proofs.TokenList.{property-moves, nop-moves}
 use Rattle.properties.specs.Properties.{nameAt}
-use Rattle.reading.specs.Values.{valueIn}
-use Rattle.reader.proofs.ValueLaws.{value-past, value-nop, value-none, value-other, value-here}
-use Rattle.reader.proofs.nodes.value_of.Statement.{statement}
-use Rattle.reader.proofs.nodes.value_of.Tie as tie
+use Rattle.nodes.specs.Places.{heldIn}
+use Rattle.nodes.proofs.ValueLaws.{held-past, held-nop, held-none, held-other, held-here}
+use Rattle.nodes.proofs.value_within.Statement.{statement}
+use Rattle.nodes.proofs.value_within.Tie as tie
 
 abbrev Inv-loop : tie.InvT-loop
 Inv-loop tree first name end strings at₀ at =
     (end ≤ length tree)
-    × (valueIn name (tokens tree end (nameAt tree (strings .from) (strings .limit)) at)
-    ≡ valueIn name (tokens tree end (nameAt tree (strings .from) (strings .limit)) first))
+    × (heldIn name (tokens tree end (nameAt tree (strings .from) (strings .limit)) at)
+    ≡ heldIn name (tokens tree end (nameAt tree (strings .from) (strings .limit)) first))
 
 abbrev μ-loop : tie.MeasureT-loop
 μ-loop tree first name end strings at₀ at = end - at
@@ -37,7 +37,7 @@ returns : tie.Need-returns Inv-loop μ-loop
 returns c =
     let l = c .before .before .before .before .before .before .before .loop .inv in
     let e = sym (c .before .before .before .before .before .step .ensures) ∙ c .before .before .before .step2 .given .1 in
-    value-here _ _ _ _ _ e (c .before .is-named .ensures) (c .if1 .taken) (l .0) (l .1)
+    held-here _ _ _ _ _ e (c .before .is-named .ensures) (c .if1 .taken) (l .0) ∙ l .1
 
 loop-less : tie.Need-loop-less Inv-loop μ-loop
 loop-less c =
@@ -49,7 +49,7 @@ loop-again : tie.Need-loop-again Inv-loop μ-loop
 loop-again c =
     let l = c .before .before .before .before .before .before .before .loop .inv in
     let e = sym (c .before .before .before .before .before .step .ensures) ∙ c .before .before .before .step2 .given .1 in
-    (l .0, sym (value-other _ _ _ _ _ e (c .before .is-named .ensures) (c .if1 .left)) ∙ l .1)
+    (l .0, sym (held-other _ _ _ _ _ e (c .before .is-named .ensures) (c .if1 .left)) ∙ l .1)
 
 enum-known-step-2 : tie.Need-enum-known-step-2 Inv-loop μ-loop
 enum-known-step-2 c = search needs
@@ -64,16 +64,16 @@ loop-again-2 : tie.Need-loop-again-2 Inv-loop μ-loop
 loop-again-2 c =
     let l = c .before .before .before .before .before .loop .inv in
     let e = sym (c .before .before .before .step .ensures) ∙ c .before .step3 .given .1 in
-    (l .0, sym (value-nop _ _ _ _ _ e) ∙ l .1)
+    (l .0, sym (held-nop _ _ _ _ _ e) ∙ l .1)
 
 returns-2 : tie.Need-returns-2 Inv-loop μ-loop
-returns-2 c = sym (c .before .before .before .loop .inv .1) ∙ value-none _ _ _ _ _ _ (c .before .step .ensures) (c .match .keys3)
+returns-2 c = sym (held-none _ _ _ _ _ _ (c .before .step .ensures) (c .match .keys3)) ∙ c .before .before .before .loop .inv .1
 
 returns-3 : tie.Need-returns-3 Inv-loop μ-loop
-returns-3 c = sym (c .before .loop .inv .1) ∙ value-past _ _ _ _ _ (omega arith)
+returns-3 c = sym (held-past _ _ _ _ _ (omega arith)) ∙ c .before .loop .inv .1
 
-pub value-of-spec : {M : Type 1} → statement M
-value-of-spec =
+pub value-within-spec : {M : Type 1} → statement M
+value-within-spec =
     tie.close
     (tie.spec
     Inv-loop

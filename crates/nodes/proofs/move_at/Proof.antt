@@ -1,9 +1,9 @@
--- `reader::nodes::move_at` meets its contract. Assumes nothing.
+-- `nodes::move_at` meets its contract. Assumes nothing.
 use mathlib.Core.Path.{sym, _∙_}
-use Rattle.reader.proofs.MoveLaws.{move-child, move-deeper, move-ended, move-up, move-property, move-nop, move-end, move-fault}
+use Rattle.nodes.proofs.MoveLaws.{move-child, move-deeper, move-ended, move-up, move-property, move-nop, move-end, move-fault}
 use borrow.Author.Needs.{needs}
-use Rattle.reader.proofs.nodes.move_at.Statement.{statement}
-use Rattle.reader.proofs.nodes.move_at.Tie as tie
+use Rattle.nodes.proofs.move_at.Statement.{statement}
+use Rattle.nodes.proofs.move_at.Tie as tie
 
 step-requires : tie.Need-step-requires
 step-requires c κs = search needs
