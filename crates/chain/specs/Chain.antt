@@ -1,9 +1,9 @@
 -- The chain that is reported for a feature left out (document 01, "Permitted and enabled").
-use Prim.Native.Nat.{ℕ, zero, suc}
-use mathlib.Core.Bool.{Bool, true, false, not}
+use Prim.Native.Nat.{ℕ}
+use mathlib.Core.Bool.{Bool, not}
 use mathlib.Core.List.{List, [], _∷_, _++_}
 use lib.Dec.{leb, ltb}
-use lib.ListN.{length, drop}
+use lib.ListN.{length}
 use Rattle.refusal.specs.Refusal.{Outcome, answer, refuse, numberOf}
 use Rattle.refusal.specs.Checks.{Check, check, firstFault}
 use Rattle.cells.specs.Buffer.{written}

@@ -11,7 +11,7 @@ ghost use mathlib.Core.Bool.{true, cond};
 ghost use Prim.Native.Nat.{_≤_, _<_, min};
 ghost use Rattle.refusal.specs.Refusal.{numberOf, refuse};
 ghost use Rattle.positions.specs.Bits.{bit};
-ghost use Rattle.positions.specs.Sets.{room, has, withMember};
+ghost use Rattle.positions.specs.Sets.{has, withMember};
 ghost use Rattle.record.specs.Cells.{lowBit};
 ghost use Rattle.form.specs.WellFormed.{bitsFit};
 ghost use Rattle.record.specs.declared.Cell.the-variants.{Given};

@@ -10,7 +10,7 @@ use borrow.Author.Tests.{lt-ltb, le-ltb}
 use lib.Bits.{bitOr, or-lt}
 use lib.Dec.{ltb}
 use lib.ListN.{getD, set}
-use lib.Pow.{pow-pos, pow-mono}
+use lib.Pow.{pow-pos}
 use lib.Seq.{getD-set-same, getD-set-other}
 use Rattle.positions.specs.Bits.{bit}
 use Rattle.positions.specs.Sets.{setWords, room, has, either, firstPositions, wordBelow}

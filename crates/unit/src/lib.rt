@@ -1,7 +1,7 @@
 // Unit text of a CPU: a number in hexadecimal.
 use refusal::Refusal;
 ghost use mathlib.Core.Path.{_≡_};
-ghost use Prim.Native.Nat.{_+_, _<_, _≤_};
+ghost use Prim.Native.Nat.{_<_};
 ghost use lib.ListN.{length};
 ghost use Rattle.unit.specs.Hex.{digitCount, readHex, writeHex, afterHex};
 ghost use Rattle.unit.specs.Unit.{readUnit, writeUnit, afterUnit, hexOutcome, unitOutcome, lengthOutcome};

@@ -15,14 +15,11 @@ ghost use Rattle.properties.specs.Marks.{withMark};
 ghost use Rattle.walk.specs.Walk.{
   beforeRoot,
   inProperties,
-  afterRoot,
   parentOf,
   mostLevels,
   walk,
   nameIn,
   treeTokens,
-  accepted,
-  refused,
 };
 ghost use Rattle.walk.specs.Checked.{noLayout, judge, checkTree, checkedOutcome};
 ghost use Rattle.walk.specs.Parts.{partOf, stopAt, propertyPart, childPart, partAt, Marked, marksAt, none, note, Reads, Ends, Closes};
