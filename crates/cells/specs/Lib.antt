@@ -1,4 +1,3 @@
 pub mod Cells
-pub mod Strings
 pub mod Buffer
 pub mod Rows

@@ -6,7 +6,7 @@ use Prim.Native.Nat.{ℕ, _+_}
 use native.Mathlib.Omega.{arith}
 use borrow.Author.Tests.{eqb-true}
 use lib.Dec.{eqb, ltb}
-use Rattle.cells.specs.Strings.{Text, ended, unended}
+use Rattle.strings.specs.Strings.{Text, ended, unended}
 use Rattle.names.specs.Names.{isNodeName, isPropertyName, isRootName}
 use Rattle.tokens.specs.Steps.{pick}
 use Rattle.tokens.specs.Tokens.{Token, beginNode, endNode, property, nop, end, fault}

@@ -5,8 +5,8 @@ use mathlib.Core.List.{List, [], _∷_, _++_, append-assoc}
 use Prim.Native.Nat.{ℕ, _+_, _≤_}
 use native.Mathlib.Omega.{arith}
 use lib.ListN.{length, length-append}
-use Rattle.cells.specs.Strings.{ended, sameBytes, textAt}
-use Rattle.cells.proofs.Strings.{same-true, same-refl, same-same}
+use Rattle.strings.specs.Strings.{ended, sameBytes, textAt}
+use Rattle.strings.proofs.Strings.{same-true, same-refl, same-same}
 use Rattle.names.specs.Names.{either}
 use Rattle.tokens.specs.Steps.{pick}
 use Rattle.encoding.specs.Items.{Each, NotZero, Stands}

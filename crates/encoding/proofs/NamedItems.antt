@@ -3,7 +3,7 @@
 use mathlib.Core.Path.{_≡_, refl, sym, ap, _∙_}
 use mathlib.Core.List.{List}
 use Prim.Native.Nat.{ℕ, _+_}
-use Rattle.cells.specs.Strings.{Text, ended, unended, textAt}
+use Rattle.strings.specs.Strings.{Text, ended, unended, textAt}
 use Rattle.header.specs.declared.Blocks.{Blocks}
 use Rattle.properties.specs.Properties.{nameAt}
 use Rattle.walk.specs.Walk.{nameIn, treeTokens}

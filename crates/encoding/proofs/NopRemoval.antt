@@ -3,7 +3,7 @@ use mathlib.Core.Path.{_≡_, refl, ap}
 use mathlib.Core.List.{List, [], _∷_, _++_, map}
 use Prim.Native.Nat.{ℕ, _+_, _≤_}
 use native.Mathlib.Omega.{arith}
-use Rattle.cells.specs.Strings.{Text, ended}
+use Rattle.strings.specs.Strings.{Text, ended}
 use Rattle.tokens.specs.Tokens.{Token, beginNode, endNode, property, end}
 use Rattle.encoding.specs.Items.{Item, nopItem, beginItem, endNodeItem, propertyItem, endItem, wholeBlock, itemSize, itemsSize, itemToken, itemTokens, Each}
 use Rattle.encoding.specs.StringsBlock.{propertyNames, renamed}

@@ -9,7 +9,7 @@ use lib.Dec.{eqb}
 use lib.ListN.{length, take, drop, getD, length-append, length-take, length-drop}
 use lib.Seq.{drop-cons, take-take, length-take-le}
 use Rattle.cells.specs.Cells.{cellAt}
-use Rattle.cells.specs.Strings.{Text, ended, unended, onto, textOf, textAt}
+use Rattle.strings.specs.Strings.{Text, ended, unended, onto, textOf, textAt}
 use Rattle.tokens.specs.Steps.{padded}
 use Rattle.encoding.specs.Items.{Item, nopItem, beginItem, endNodeItem, propertyItem, endItem, cellBytes, itemBytes, itemSize, Each, Byte, NotZero, Writable, Stands}
 use Rattle.encoding.proofs.Lists.{each-get}

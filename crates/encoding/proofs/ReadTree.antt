@@ -3,7 +3,7 @@ use mathlib.Core.Path.{_≡_, sym, ap, _∙_}
 use mathlib.Core.List.{List, [], map}
 use Prim.Native.Nat.{ℕ, _+_, _≤_}
 use lib.ListN.{length}
-use Rattle.cells.specs.Strings.{ended}
+use Rattle.strings.specs.Strings.{ended}
 use Rattle.header.specs.declared.Blocks.{Blocks}
 use Rattle.properties.specs.Properties.{nameAt}
 use Rattle.walk.specs.Walk.{nameIn, treeTokens}

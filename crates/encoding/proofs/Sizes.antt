@@ -4,7 +4,7 @@ use mathlib.Core.List.{List, [], _∷_, _++_, append-assoc}
 use Prim.Native.Nat.{ℕ, _+_, _-_, _%_, _≤_}
 use native.Mathlib.Omega.{arith}
 use lib.ListN.{length, length-append, length-replicate}
-use Rattle.cells.specs.Strings.{Text}
+use Rattle.strings.specs.Strings.{Text}
 use Rattle.tokens.specs.Steps.{padded}
 use Rattle.tokens.specs.Tokens.{Token}
 use Rattle.encoding.specs.Items.{Item, nopItem, beginItem, endNodeItem, propertyItem, endItem, itemBytes, encode, itemSize, itemsSize, itemToken, itemTokens, Each, Fills, zeroPadding, Writable}

@@ -8,7 +8,7 @@ use lib.ListN.{length, take, drop, getD, length-append, length-take, length-drop
 use lib.Seq.{take-add, take-take, take-append-seam, drop-append-seam, drop-drop, getD-take, getD-drop, length-take-le}
 use Rattle.cells.specs.Buffer.{written}
 use Rattle.cells.specs.Cells.{cellAt}
-use Rattle.cells.specs.Strings.{ended, textOf, textAt}
+use Rattle.strings.specs.Strings.{ended, textOf, textAt}
 use Rattle.encoding.specs.Items.{cellBytes, Each, NotZero, Stands}
 
 module _ (s : List ℕ) (at : ℕ) where

@@ -7,7 +7,7 @@ use lib.Dec.{eqb}
 use lib.ListN.{length, take, drop, length-append}
 use lib.Seq.{take-at, take-append-seam, drop-append-seam}
 use Rattle.cells.specs.Cells.{cellAt}
-use Rattle.cells.specs.Strings.{ended, textOf}
+use Rattle.strings.specs.Strings.{ended, textOf}
 use Rattle.tokens.specs.Steps.{pick, padded}
 use Rattle.encoding.specs.Items.{Item, nopItem, beginItem, endNodeItem, propertyItem, endItem, cellBytes, itemBytes, encode, wholeBlock, Each, Writable}
 use Rattle.encoding.specs.StringsBlock.{characters}

@@ -3,7 +3,7 @@ use Prim.Native.Nat.{ℕ, _+_, _-_, _/_, _%_, _^_, _<_}
 use mathlib.Core.Path.{_≡_}
 use mathlib.Core.List.{List, [], _∷_, _++_}
 use lib.ListN.{length, take, drop, replicate}
-use Rattle.cells.specs.Strings.{Text, ended}
+use Rattle.strings.specs.Strings.{Text, ended}
 use Rattle.tokens.specs.Steps.{padded}
 use Rattle.tokens.specs.Tokens.{Token, beginNode, endNode, property, nop, end}
 

@@ -7,9 +7,9 @@ use native.Mathlib.Omega.{arith}
 use borrow.Author.Tests.{leb-true}
 use lib.Dec.{eqb, leb}
 use lib.ListN.{length, take, drop}
-use Rattle.cells.specs.Strings.{Text, ended, unended, onto, textOf, textAt, endingOf}
-use Rattle.cells.specs.declared.Ending.the-variants.{At, Nowhere}
-use Rattle.cells.proofs.Strings.{text-taken}
+use Rattle.strings.specs.Strings.{Text, ended, unended, onto, textOf, textAt, endingOf}
+use Rattle.strings.specs.declared.Ending.the-variants.{At, Nowhere}
+use Rattle.strings.proofs.Strings.{text-taken}
 use Rattle.header.specs.Header.{blocksOf}
 use Rattle.header.proofs.Accepted.{header-lies}
 use Rattle.names.specs.Names.{both, isNodeName, nodeCharacters, lengthWithin, mostNodeName}

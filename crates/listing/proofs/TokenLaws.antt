@@ -8,7 +8,7 @@ use native.Mathlib.Omega.{arith}
 use lib.Dec.{ltb}
 use lib.ListN.{length, take, drop}
 use Rattle.cells.specs.Cells.{cellAt}
-use Rattle.cells.specs.Strings.{Text, ended, unended, textAt}
+use Rattle.strings.specs.Strings.{Text, ended, unended, textAt}
 use Rattle.header.specs.declared.Blocks.{Blocks}
 use Rattle.header.specs.Header.{blocksOf}
 use Rattle.names.specs.Names.{sameText, isNodeName}

@@ -10,7 +10,7 @@ use Rattle.refusal.specs.Refusal.{Outcome, answer, refuse, numberOf}
 use Rattle.refusal.specs.Checks.{Check, check, firstFault}
 use Rattle.cells.specs.Buffer.{written}
 use Rattle.cells.specs.Rows.{each}
-use Rattle.cells.specs.Strings.{Text, ended, unended}
+use Rattle.strings.specs.Strings.{Text, ended, unended}
 use Rattle.positions.specs.Sets.{setOf, noMembers, memberCount}
 use Rattle.record.specs.declared.Record.{Record}
 use Rattle.nodes.specs.Nodes.{nodeAt}

@@ -1,10 +1,10 @@
 // The lister's text: the lines of a tree, one at a time.
-use cells::Ending;
 use permitted::Grants;
 use permitted::USER;
 use record::MOST_FEATURES;
 use record::Record;
 use refusal::Refusal;
+use strings::Ending;
 ghost use mathlib.Core.Path.{_≡_};
 ghost use mathlib.Core.List.{_++_};
 ghost use Prim.Native.Nat.{_+_, _<_, _≤_};
@@ -131,7 +131,7 @@ fn put_string(line: &mut [u8], at: usize, tree: &[u8], from: usize) -> usize
     requires { ⌜ at + length-of (stringAt (now tree) from) ≤ length-of (now line) ⌝ }
     ensures { λ n. ⌜ Put (now (line .entry)) at (stringAt (now (tree .entry)) from) (now (line .exit)) n ⌝ }
 {
-    let ending = cells::text_end(tree, from, tree.len());
+    let ending = strings::text_end(tree, from, tree.len());
     match ending {
         Ending::At(zero) => put(line, at, &tree[from..zero]),
         Ending::Nowhere => at,

@@ -4,7 +4,7 @@ use mathlib.Core.Bool.{true, false}
 use mathlib.Core.List.{List, [], _∷_, _++_}
 use lib.Dec.{ltb}
 use lib.ListN.{length, take, drop}
-use Rattle.cells.specs.Strings.{Text, ended}
+use Rattle.strings.specs.Strings.{Text, ended}
 use Rattle.names.specs.Names.{isPropertyName, sameText}
 use Rattle.refusal.specs.Refusal.{Outcome, numberOf}
 use Rattle.tokens.specs.declared.Step.the-variants.{BeginNode, EndNode, Property, Nop, End, Fault}

@@ -4,7 +4,7 @@ use refusal::Refusal;
 use tokens::Cursor;
 use tokens::Step;
 ghost use mathlib.Core.Path.{_≡_};
-ghost use Rattle.cells.specs.Strings.{ended};
+ghost use Rattle.strings.specs.Strings.{ended};
 ghost use Rattle.names.specs.Names.{sameText};
 ghost use Rattle.refusal.specs.Refusal.{numberOf};
 ghost use Rattle.lookup.specs.Lookup.{blockOf, lookup as lookupIn, reason, lookedUp, lookedOutcome, partOf, valueOf};

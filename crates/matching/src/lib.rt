@@ -1,6 +1,6 @@
 // Names in a block of bytes compared, with each other and with given characters.
 ghost use mathlib.Core.Path.{_≡_};
-ghost use Rattle.cells.specs.Strings.{textAt, ended};
+ghost use Rattle.strings.specs.Strings.{textAt, ended};
 ghost use Rattle.names.specs.Names.{sameText};
 
 // Whether the names that begin at `p` and at `q`, in a block that ends at `end`, are the same characters.

@@ -8,11 +8,11 @@ use borrow.Author.Tests.{eq-eqb, ne-eqb, eqb-true, eqb-false, le-leb, lt-leb, le
 use lib.Dec.{eqb, leb}
 use lib.ListN.{getD, length, length-append}
 use Rattle.characters.specs.Characters.{isNodeCharacter, isPropertyCharacter, oneIf}
-use Rattle.cells.specs.Strings.{Text, ended, unended, onto, textAt}
+use Rattle.strings.specs.Strings.{Text, ended, unended, onto, textAt}
 use Rattle.names.specs.declared.NameRead.{NameRead}
 use Rattle.names.specs.declared.NameRead.the-variants.{Good, Bad}
 use Rattle.names.specs.Names.{mostNodeName, mostPropertyName, atSign, both, either, every, atSigns, firstIsPlain, lastIsPlain, lengthWithin, nodeCharacters, isNodeName, isPropertyName, isRootName, readName, nodeNameAt, propertyNameAt, rootNameAt}
-use Rattle.cells.proofs.Strings.{text-none, text-empty, text-more, text-within}
+use Rattle.strings.proofs.Strings.{text-none, text-empty, text-more, text-within}
 use Rattle.names.proofs.Texts.{prefixed, prefixed-onto}
 
 -- tests

@@ -9,8 +9,8 @@ use borrow.Author.Tests.{eq-eqb, ne-eqb, eqb-true, eqb-false}
 use lib.Dec.{eqb}
 use lib.ListN.{getD, length, drop, drop-of-length-le, length-drop}
 use lib.Seq.{drop-cons}
-use Rattle.cells.specs.Strings.{Text, ended, unended, onto, textAt, sameBytes}
-use Rattle.cells.proofs.Strings.{text-none, text-empty, text-more, same-true, same-refl}
+use Rattle.strings.specs.Strings.{Text, ended, unended, onto, textAt, sameBytes}
+use Rattle.strings.proofs.Strings.{text-none, text-empty, text-more, same-true, same-refl}
 use Rattle.names.specs.Names.{sameText}
 
 -- characters in front of a string

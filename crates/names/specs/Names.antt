@@ -5,7 +5,7 @@ use mathlib.Core.List.{List, [], _∷_}
 use lib.Dec.{eqb, leb}
 use lib.ListN.{length}
 use Rattle.characters.specs.Characters.{isNodeCharacter, isPropertyCharacter}
-use Rattle.cells.specs.Strings.{Text, ended, unended, sameBytes, textAt}
+use Rattle.strings.specs.Strings.{Text, ended, unended, sameBytes, textAt}
 use Rattle.names.specs.declared.NameRead.{NameRead}
 use Rattle.names.specs.declared.NameRead.the-variants.{Good, Bad}
 

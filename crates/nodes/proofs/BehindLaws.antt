@@ -4,9 +4,9 @@ use mathlib.Core.List.{List}
 use Prim.Native.Nat.{ℕ, _+_, _-_, _*_, _/_, _<_}
 use native.Mathlib.Omega.{arith}
 use lib.ListN.{length}
-use Rattle.cells.specs.Strings.{Text, ended, unended, textAt, endingOf}
-use Rattle.cells.specs.declared.Ending.the-variants.{At, Nowhere}
-use Rattle.cells.proofs.Strings.{text-within}
+use Rattle.strings.specs.Strings.{Text, ended, unended, textAt, endingOf}
+use Rattle.strings.specs.declared.Ending.the-variants.{At, Nowhere}
+use Rattle.strings.proofs.Strings.{text-within}
 use Rattle.tokens.specs.Steps.{padded}
 use Rattle.nodes.specs.Places.{behindOf}
 

@@ -6,7 +6,7 @@ use Prim.Native.Nat.{ℕ, zero, suc, _+_, _-_, _<_, _≤_}
 use native.Mathlib.Omega.{arith}
 use lib.ListN.{length, take, drop}
 use Rattle.cells.specs.Cells.{cellAt}
-use Rattle.cells.specs.Strings.{Text, ended, unended, textAt}
+use Rattle.strings.specs.Strings.{Text, ended, unended, textAt}
 use Rattle.header.specs.declared.Blocks.{Blocks}
 use Rattle.names.specs.Names.{sameText}
 use Rattle.tokens.specs.declared.Step.{Step}

@@ -9,7 +9,7 @@ use lib.Dec.{ltb}
 use lib.ListN.{length, getD}
 use lib.Seq.{take-all}
 use Rattle.cells.specs.Rows.{padded}
-use Rattle.cells.specs.Strings.{ended}
+use Rattle.strings.specs.Strings.{ended}
 use Rattle.header.specs.declared.Blocks.{Blocks}
 use Rattle.names.specs.Names.{sameText}
 use Rattle.tokens.specs.Steps.{pick}

@@ -6,7 +6,7 @@ use Prim.Native.Nat.{ℕ, _+_, _<_, _≤_}
 use native.Mathlib.Omega.{arith}
 use native.Mathlib.Decide.{decLt}
 use lib.ListN.{getD}
-use Rattle.cells.specs.Strings.{textAt}
+use Rattle.strings.specs.Strings.{textAt}
 use Rattle.names.specs.Names.{sameText}
 use Rattle.nodes.specs.declared.NodePlace.{NodePlace}
 use Rattle.positions.specs.Below.{some}

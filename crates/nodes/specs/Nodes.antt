@@ -1,7 +1,7 @@
 -- The nodes of a tree, in a list of its tokens. NOPs are skipped.
 use Prim.Native.Nat.{ℕ, zero, suc}
 use mathlib.Core.List.{List, [], _∷_}
-use Rattle.cells.specs.Strings.{Text, ended, unended}
+use Rattle.strings.specs.Strings.{Text, ended, unended}
 use Rattle.names.specs.Names.{sameText}
 use Rattle.tokens.specs.Steps.{pick}
 use Rattle.tokens.specs.Tokens.{Token, beginNode, endNode, property, nop, end, fault}

@@ -4,7 +4,7 @@ use mathlib.Core.Path.{_≡_}
 use mathlib.Core.Bool.{Bool, true, false}
 use mathlib.Core.List.{List, _∷_}
 use lib.ListN.{length, take, drop, getD}
-use Rattle.cells.specs.Strings.{textAt}
+use Rattle.strings.specs.Strings.{textAt}
 use Rattle.header.specs.declared.Blocks.{Blocks}
 use Rattle.tokens.specs.Tokens.{Token}
 use Rattle.walk.specs.Walk.{treeTokens}

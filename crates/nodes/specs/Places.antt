@@ -5,7 +5,7 @@ use mathlib.Core.List.{List, [], _∷_, map}
 use lib.Dec.{leb, ltb}
 use lib.ListN.{length, take, getD}
 use Rattle.cells.specs.Rows.{padded}
-use Rattle.cells.specs.Strings.{Text, ended, unended, textAt}
+use Rattle.strings.specs.Strings.{Text, ended, unended, textAt}
 use Rattle.names.specs.Names.{sameText}
 use Rattle.header.specs.declared.Blocks.{Blocks}
 use Rattle.tokens.specs.Steps.{pick}

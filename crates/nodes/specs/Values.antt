@@ -8,7 +8,7 @@ use lib.ListN.{length}
 use Rattle.characters.specs.Characters.{bytes}
 use Rattle.cells.specs.Cells.{cellAt}
 use Rattle.cells.specs.Rows.{each}
-use Rattle.cells.specs.Strings.{ended, isString}
+use Rattle.strings.specs.Strings.{ended, isString}
 use Rattle.names.specs.Names.{sameText}
 use Rattle.positions.specs.Bits.{bit}
 use Rattle.tokens.specs.Steps.{pick}

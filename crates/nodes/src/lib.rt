@@ -1,14 +1,14 @@
 // Nodes in a tree: the value of a property, the direct children, their names. Every public function takes any tree, blocks and place.
-use cells::Ending;
 use header::Blocks;
 use properties::StringsBlock;
 use record::MOST_FEATURES;
+use strings::Ending;
 use tokens::Cursor;
 use tokens::Step;
 ghost use mathlib.Core.Path.{_≡_};
 ghost use Prim.Native.Nat.{_≤_, _<_, min};
 ghost use lib.ListN.{length as length-of};
-ghost use Rattle.cells.specs.Strings.{textAt};
+ghost use Rattle.strings.specs.Strings.{textAt};
 ghost use Rattle.record.specs.Record.{mostFeatures};
 ghost use Rattle.walk.specs.Walk.{treeTokens};
 ghost use Rattle.nodes.specs.Nodes.{childrenAt};
@@ -100,7 +100,7 @@ pub fn value_of(tree: &[u8], b: Blocks, first: usize, name: &[u8]) -> Held
 pub fn behind(tree: &[u8], end: usize, from: usize) -> usize
     ensures { λ r. ⌜ r ≡ behindOf from end (textAt (now (tree .entry)) from end) ⌝ }
 {
-    let ending = cells::text_end(tree, from, end);
+    let ending = strings::text_end(tree, from, end);
     match ending {
         Ending::At(zero) => from + ((zero - from) / 4 + 1) * 4,
         Ending::Nowhere => end,

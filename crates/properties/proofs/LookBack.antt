@@ -6,8 +6,8 @@ use Prim.Native.Nat.{ℕ, _+_, _<_, _≤_, min}
 use native.Mathlib.Omega.{arith}
 use native.Mathlib.Decide.{decLe}
 use borrow.Author.Tests.{lt-ltb, le-ltb}
-use Rattle.cells.specs.Strings.{Text, textAt}
-use Rattle.cells.proofs.Strings.{text-none}
+use Rattle.strings.specs.Strings.{Text, textAt}
+use Rattle.strings.proofs.Strings.{text-none}
 use Rattle.names.specs.Names.{either, sameText, isPropertyName, propertyNameAt}
 use Rattle.names.specs.declared.NameRead.the-variants.{Good, Bad}
 use Rattle.names.proofs.NameLaws.{property-name-good, property-name-bad}

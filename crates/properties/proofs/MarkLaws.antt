@@ -10,8 +10,8 @@ use borrow.Author.Tests.{le-leb, lt-leb}
 use lib.Dec.{eqb}
 use lib.ListN.{length, getD, set, take, drop, length-set, drop-of-length-le}
 use lib.Seq.{drop-cons, set-out, getD-set-same, getD-set-other}
-use Rattle.cells.specs.Strings.{Text, ended, unended, textAt}
-use Rattle.cells.proofs.Strings.{text-taken, same-true}
+use Rattle.strings.specs.Strings.{Text, ended, unended, textAt}
+use Rattle.strings.proofs.Strings.{text-taken, same-true}
 use Rattle.names.specs.Names.{both, either, isPropertyName, propertyNameAt, sameText}
 use Rattle.names.specs.declared.NameRead.the-variants.{Good, Bad}
 use Rattle.names.proofs.NameLaws.{property-name-good, property-name-bad}

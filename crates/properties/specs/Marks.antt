@@ -5,7 +5,7 @@ use mathlib.Core.Bool.{Bool, not}
 use mathlib.Core.List.{List, [], _∷_}
 use lib.Dec.{eqb, leb}
 use lib.ListN.{length, getD, set}
-use Rattle.cells.specs.Strings.{Text, ended, unended}
+use Rattle.strings.specs.Strings.{Text, ended, unended}
 use Rattle.names.specs.Names.{either, isPropertyName}
 use Rattle.tokens.specs.Steps.{pick}
 

@@ -6,7 +6,7 @@ use tokens::Step;
 ghost use mathlib.Core.Path.{_≡_};
 ghost use Prim.Native.Nat.{_+_, min};
 ghost use lib.ListN.{set};
-ghost use Rattle.cells.specs.Strings.{textAt, ended};
+ghost use Rattle.strings.specs.Strings.{textAt, ended};
 ghost use Rattle.names.specs.Names.{both, sameText};
 ghost use Rattle.refusal.specs.Refusal.{numberOf};
 ghost use Rattle.tokens.specs.Steps.{pick};

@@ -6,7 +6,7 @@ use Prim.Native.Nat.{ℕ, _+_, _-_}
 use Prim.Native.String.{String}
 use native.Mathlib.Omega.{arith}
 use lib.ListN.{take, drop, replicate}
-use Rattle.cells.specs.Strings.{isString}
+use Rattle.strings.specs.Strings.{isString}
 use Rattle.characters.specs.Characters.{bytes}
 use Rattle.record.specs.declared.Feature.{Feature}
 use Rattle.record.specs.declared.Record.{Record}

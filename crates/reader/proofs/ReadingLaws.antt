@@ -5,7 +5,7 @@ use Prim.Native.Nat.{ℕ, zero, suc, _+_, _<_, _≤_, min}
 use native.Mathlib.Omega.{arith}
 use borrow.Author.Tests.{le-leb, lt-leb}
 use lib.ListN.{length, getD}
-use Rattle.cells.specs.Strings.{textAt}
+use Rattle.strings.specs.Strings.{textAt}
 use Rattle.refusal.specs.Refusal.{Fault, numberOf, Placed, placed, refuseAt, fault}
 use Rattle.refusal.specs.Checks.{Check, firstFault}
 use Rattle.header.specs.declared.Blocks.{Blocks}

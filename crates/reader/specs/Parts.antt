@@ -10,7 +10,7 @@ use Rattle.walk.specs.Walk.{treeTokens}
 use Rattle.header.specs.Header.{largestTree}
 use Rattle.cells.specs.Cells.{cellAt}
 use Rattle.cells.specs.Rows.{padded}
-use Rattle.cells.specs.Strings.{isString}
+use Rattle.strings.specs.Strings.{isString}
 use Rattle.record.specs.declared.Record.{Record}
 use Rattle.record.specs.declared.Feature.{Feature}
 use Rattle.record.specs.Record.{mostFeatures, mostDependencies, slotCount, noFeature, noFeatures}

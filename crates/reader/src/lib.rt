@@ -59,7 +59,7 @@ fn has_text(tree: &[u8], b: Blocks, first: usize, name: &[u8], text: &[u8]) -> b
         Held::Missing => false,
         Held::At { from, length } => {
             let end = from + length;
-            cells::is_string(&tree[from..end], text)
+            strings::is_string(&tree[from..end], text)
         }
     }
 }

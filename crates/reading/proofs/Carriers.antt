@@ -7,7 +7,7 @@ use native.Mathlib.Omega.{arith}
 use lib.ListN.{length, getD, take, drop}
 use lib.Seq.{split-at, getD-take, length-take-le}
 use borrow.Author.Tests.{eqb-true, eq-eqb}
-use Rattle.cells.specs.Strings.{unended}
+use Rattle.strings.specs.Strings.{unended}
 use Rattle.names.specs.Names.{either}
 use Rattle.tokens.specs.Steps.{pick}
 use Rattle.record.specs.declared.Property.the-variants.{Phandle}

@@ -6,7 +6,7 @@ use Prim.Native.Nat.{ℕ}
 use native.Mathlib.Omega.{arith}
 use Rattle.refusal.specs.Refusal.{Placed}
 use Rattle.header.specs.Header.{blocksOf}
-use Rattle.cells.specs.Strings.{ended}
+use Rattle.strings.specs.Strings.{ended}
 use Rattle.names.specs.Names.{sameText}
 use Rattle.tokens.specs.Steps.{pick}
 use Rattle.tokens.specs.Tokens.{Token, beginNode, endNode, property, nop, end, fault}

@@ -4,7 +4,7 @@ use Rattle.refusal.specs.Refusal.{placed}
 use Rattle.refusal.specs.Checks.{firstFault}
 use Rattle.characters.specs.Characters.{isNodeCharacter, isPropertyCharacter}
 use Rattle.cells.specs.Cells.{cellAt}
-use Rattle.cells.specs.Strings.{textOf, textAt, sameBytes, isString}
+use Rattle.strings.specs.Strings.{textOf, textAt, sameBytes, isString}
 use Rattle.names.specs.Names.{every, atSigns, firstIsPlain, lastIsPlain, nodeCharacters, isNodeName, isPropertyName, isRootName, sameText}
 use Rattle.header.specs.Header.{blockChecks, headerChecks, blocksOf, header}
 use Rattle.tokens.specs.Tokens.{tokensFrom, tokens}

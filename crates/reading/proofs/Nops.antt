@@ -3,7 +3,7 @@ use mathlib.Core.Path.{_≡_, refl, ap}
 use mathlib.Core.Bool.{Bool, true, false}
 use mathlib.Core.List.{List, [], _∷_, map}
 use Prim.Native.Nat.{ℕ, zero, suc}
-use Rattle.cells.specs.Strings.{ended}
+use Rattle.strings.specs.Strings.{ended}
 use Rattle.names.specs.Names.{sameText}
 use Rattle.tokens.specs.Steps.{pick}
 use Rattle.tokens.specs.Tokens.{Token, beginNode, endNode, property, nop, end, fault}

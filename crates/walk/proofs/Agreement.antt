@@ -8,7 +8,7 @@ use native.Mathlib.Nat.{sub-zero, zero-sub, suc-sub-suc}
 use lib.ListN.{getD, take, drop}
 use lib.Seq.{slice, take-nil, take-take, drop-drop, getD-take, getD-drop}
 use Rattle.cells.specs.Cells.{byteAt, cellAt}
-use Rattle.cells.specs.Strings.{Text, ended, unended, textOf, textAt}
+use Rattle.strings.specs.Strings.{Text, ended, unended, textOf, textAt}
 use Rattle.header.specs.declared.Blocks.{Blocks}
 use Rattle.tokens.specs.declared.Step.{Step}
 use Rattle.tokens.specs.Steps.{padded, propertyAt, stepAt}

@@ -7,7 +7,7 @@ use Prim.Native.Nat.{ℕ, zero, suc, _+_, _-_, _<_, _≤_}
 use native.Mathlib.Omega.{arith}
 use lib.ListN.{take, drop}
 use Rattle.cells.specs.Cells.{cellAt}
-use Rattle.cells.specs.Strings.{Text, ended, unended, textAt}
+use Rattle.strings.specs.Strings.{Text, ended, unended, textAt}
 use Rattle.names.specs.Names.{isNodeName, isRootName}
 use Rattle.tokens.specs.Steps.{padded}
 use Rattle.tokens.specs.Tokens.{Token, beginNode, endNode, property, nop, end, fault, afterName, afterBegin, tokens}

@@ -4,7 +4,7 @@ use mathlib.Core.Bool.{false≢true}
 use mathlib.Core.List.{List, [], _∷_, _++_}
 use Prim.Native.Nat.{ℕ, _≤_}
 use native.Mathlib.Omega.{arith}
-use Rattle.cells.specs.Strings.{Text}
+use Rattle.strings.specs.Strings.{Text}
 use Rattle.tokens.specs.Tokens.{Token, tokens}
 use Rattle.walk.specs.Walk.{State, Verdict, accepted, refused, Next, goOn, stop, step, walk}
 use Rattle.walk.specs.Final.{EndsFinal, last, more}

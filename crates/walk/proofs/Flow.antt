@@ -6,8 +6,8 @@ use Prim.Native.Nat.{ℕ, _+_, _*_, _-_, _/_, _<_, _≤_}
 use native.Mathlib.Omega.{arith}
 use borrow.Author.Tests.{lt-ltb, le-ltb}
 use lib.ListN.{length, take, drop}
-use Rattle.cells.specs.Strings.{Text, ended, unended, textAt}
-use Rattle.cells.proofs.Strings.{text-taken}
+use Rattle.strings.specs.Strings.{Text, ended, unended, textAt}
+use Rattle.strings.proofs.Strings.{text-taken}
 use Rattle.header.specs.declared.Blocks.{Blocks}
 use Rattle.names.specs.Names.{isNodeName, isPropertyName, nodeNameAt}
 use Rattle.names.specs.declared.NameRead.{NameRead}

@@ -9,8 +9,8 @@ use lib.ListN.{length, take, drop}
 use Rattle.refusal.specs.Refusal.{numberOf}
 use Rattle.refusal.specs.declared.Refusal.{Refusal}
 use Rattle.refusal.specs.declared.Refusal.the-variants.{Token as TokenFault}
-use Rattle.cells.specs.Strings.{Text, ended, unended, textAt, sameBytes}
-use Rattle.cells.proofs.Strings.{text-within}
+use Rattle.strings.specs.Strings.{Text, ended, unended, textAt, sameBytes}
+use Rattle.strings.proofs.Strings.{text-within}
 use Rattle.header.specs.declared.Blocks.{Blocks}
 use Rattle.names.specs.Names.{isRootName, rootNameAt}
 use Rattle.tokens.specs.declared.Cursor.{Cursor}

@@ -6,7 +6,7 @@ use Prim.Native.Nat.{ℕ, zero, suc, _+_, _*_, _/_}
 use native.Mathlib.Omega.{arith}
 use borrow.Author.Tests.{eq-eqb, ne-eqb}
 use lib.ListN.{length}
-use Rattle.cells.specs.Strings.{sameBytes}
+use Rattle.strings.specs.Strings.{sameBytes}
 use Rattle.header.specs.declared.Blocks.{Blocks}
 use Rattle.names.specs.Names.{both, nodeNameAt}
 use Rattle.names.specs.declared.NameRead.the-variants.{Good, Bad}

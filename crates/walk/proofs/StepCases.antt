@@ -6,7 +6,7 @@ use Prim.Native.Nat.{ℕ, _+_, _<_, _≤_}
 use native.Mathlib.Omega.{arith}
 use borrow.Author.Tests.{ltb-true, eqb-true, lt-ltb}
 use lib.Dec.{ltb, eqb}
-use Rattle.cells.specs.Strings.{Text}
+use Rattle.strings.specs.Strings.{Text}
 use Rattle.names.specs.Names.{isNodeName, isPropertyName, isRootName}
 use Rattle.tokens.specs.Steps.{pick}
 use Rattle.tokens.specs.Tokens.{Token, beginNode, endNode, property, nop, end, fault}

@@ -6,7 +6,7 @@ use Prim.Native.Nat.{ℕ, zero, suc, _+_, min}
 use native.Mathlib.Omega.{arith}
 use lib.ListN.{length}
 use Rattle.refusal.specs.Refusal.{numberOf, Placed, placed, refuseAt, fault}
-use Rattle.cells.specs.Strings.{ended, unended, sameBytes}
+use Rattle.strings.specs.Strings.{ended, unended, sameBytes}
 use Rattle.names.specs.Names.{sameText}
 use Rattle.header.specs.declared.Blocks.{Blocks}
 use Rattle.tokens.specs.Steps.{pick}

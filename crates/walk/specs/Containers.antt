@@ -4,7 +4,7 @@ use mathlib.Core.Bool.{true, false}
 use mathlib.Core.List.{List, [], _∷_}
 use lib.ListN.{length, getD}
 use Rattle.characters.specs.Characters.{bytes}
-use Rattle.cells.specs.Strings.{ended}
+use Rattle.strings.specs.Strings.{ended}
 use Rattle.names.specs.Names.{sameText}
 use Rattle.tokens.specs.Tokens.{Token, beginNode, endNode, property, nop, end, fault}
 use Rattle.walk.specs.declared.Containers.{Containers}

@@ -3,7 +3,7 @@ use Prim.Native.Nat.{ℕ}
 use mathlib.Core.Path.{_≡_}
 use mathlib.Core.Bool.{Bool, true, false}
 use mathlib.Core.List.{List, [], _∷_}
-use Rattle.cells.specs.Strings.{ended, unended}
+use Rattle.strings.specs.Strings.{ended, unended}
 use Rattle.tokens.specs.Tokens.{Token, beginNode, endNode, property, nop, end, fault}
 use Rattle.walk.specs.Walk.{State, Verdict, goOn, stop, step}
 

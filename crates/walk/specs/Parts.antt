@@ -5,7 +5,7 @@ use mathlib.Core.Bool.{Bool, false}
 use mathlib.Core.List.{List, [], _∷_, _++_}
 use lib.Dec.{eqb}
 use lib.ListN.{length}
-use Rattle.cells.specs.Strings.{Text, ended, unended, sameBytes}
+use Rattle.strings.specs.Strings.{Text, ended, unended, sameBytes}
 use Rattle.names.specs.Names.{nodeNameAt}
 use Rattle.names.specs.declared.NameRead.the-variants.{Good, Bad}
 use Rattle.refusal.specs.Refusal.{numberOf, Placed, placed, refuseAt, fault as refusedAt}

@@ -2,7 +2,7 @@
 use Prim.Native.Nat.{ℕ, _+_, _-_}
 use mathlib.Core.List.{List, [], _∷_, _++_}
 use lib.Dec.{ltb, eqb}
-use Rattle.cells.specs.Strings.{Text}
+use Rattle.strings.specs.Strings.{Text}
 use Rattle.names.specs.Names.{isNodeName, isPropertyName, isRootName}
 use Rattle.tokens.specs.Steps.{pick}
 use Rattle.tokens.specs.Tokens.{Token, beginNode, endNode, property, nop, end, fault, tokens}

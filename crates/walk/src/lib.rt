@@ -177,7 +177,7 @@ fn noted(seen: Containers, tree: &[u8], at: usize, from: usize, length: usize) -
     ensures { λ r. ⌜ r ≡ note seen at (take length (drop from (now (tree .entry)))) ⌝ }
 {
     let end = from + length;
-    if !cells::same_bytes(&tree[from..end], b"ibm,powerpc-cpu-features") {
+    if !strings::same_bytes(&tree[from..end], b"ibm,powerpc-cpu-features") {
         return seen;
     }
     if seen.count == 0 {

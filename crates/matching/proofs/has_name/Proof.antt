@@ -4,7 +4,7 @@ use native.Mathlib.Omega.{arith}
 use mathlib.Core.Path.{_≡_, sym, _∙_}
 use Prim.Native.Nat.{_-_, _≤_, min}
 use lib.ListN.{length}
-use Rattle.cells.specs.Strings.{textAt, ended}
+use Rattle.strings.specs.Strings.{textAt, ended}
 use Rattle.names.specs.Names.{sameText}
 use Rattle.names.proofs.Texts.{hasFrom, has-whole, named-none, named-ended, named-longer, named-apart, named-goes-on}
 use Rattle.matching.proofs.has_name.Statement.{statement}

@@ -4,7 +4,7 @@ use native.Mathlib.Omega.{arith}
 use mathlib.Core.Path.{_≡_, refl, sym, _∙_}
 use Prim.Native.Nat.{_-_, min}
 use lib.ListN.{length}
-use Rattle.cells.specs.Strings.{textAt}
+use Rattle.strings.specs.Strings.{textAt}
 use Rattle.names.specs.Names.{sameText}
 use Rattle.names.proofs.Texts.{same-none-left, same-none-right, same-ended, same-goes-on, same-apart}
 use Rattle.matching.proofs.same_name.Statement.{statement}

@@ -3,7 +3,7 @@ use borrow.Author.Needs.{needs}
 use mathlib.Core.Path.{_≡_, refl, sym, _∙_}
 use native.Mathlib.Omega.{arith}
 use Prim.Native.Nat.{_-_}
-use Rattle.cells.specs.Strings.{textAt}
+use Rattle.strings.specs.Strings.{textAt}
 use Rattle.tokens.specs.Tokens.{tokens}
 use Rattle.tokens.proofs.TokenList.{property-moves, nop-moves}
 use Rattle.properties.specs.Properties.{nameAt, givenBefore}

@@ -10,8 +10,8 @@ use borrow.Author.Tests.{eq-eqb, ne-eqb, eqb-true}
 use lib.Dec.{eqb}
 use lib.ListN.{getD, length, take, drop, drop-of-length-le, length-append, length-take, length-drop}
 use lib.Seq.{drop-cons, take-nil, take-suc, take-all, getD-append-seam, take-append-seam, take-take}
-use Rattle.cells.specs.declared.Ending.the-variants.{At, Nowhere}
-use Rattle.cells.specs.Strings.{Text, ended, unended, onto, textOf, textAt, endingOf, sameBytes, isString}
+use Rattle.strings.specs.declared.Ending.the-variants.{At, Nowhere}
+use Rattle.strings.specs.Strings.{Text, ended, unended, onto, textOf, textAt, endingOf, sameBytes, isString}
 
 -- a string in a block, byte by byte
 module _ (s : List ℕ) (end i : ℕ) where

@@ -1,13 +1,13 @@
--- `cells::text_end` meets its contract. The loop's invariant: the string from `i` on ends where the whole one does. Assumes nothing.
+-- `strings::text_end` meets its contract. The loop's invariant: the string from `i` on ends where the whole one does. Assumes nothing.
 use borrow.Author.Needs.{needs}
 use native.Mathlib.Omega.{arith}
 use mathlib.Core.Path.{_≡_, refl, sym, _∙_}
 use Prim.Native.Nat.{_-_, min}
 use lib.ListN.{length}
-use Rattle.cells.specs.Strings.{textAt, endingOf}
-use Rattle.cells.proofs.Strings.{no-text, text-ends, text-goes-on}
-use Rattle.cells.proofs.text_end.Statement.{statement}
-use Rattle.cells.proofs.text_end.Tie as tie
+use Rattle.strings.specs.Strings.{textAt, endingOf}
+use Rattle.strings.proofs.Strings.{no-text, text-ends, text-goes-on}
+use Rattle.strings.proofs.text_end.Statement.{statement}
+use Rattle.strings.proofs.text_end.Tie as tie
 
 abbrev Inv-loop : tie.InvT-loop
 Inv-loop s from end stop i₀ i =

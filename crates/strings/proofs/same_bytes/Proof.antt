@@ -1,4 +1,4 @@
--- `cells::same_bytes` meets its contract. The loop's invariant: the runs agree at every index passed. Assumes nothing.
+-- `strings::same_bytes` meets its contract. The loop's invariant: the runs agree at every index passed. Assumes nothing.
 use borrow.Author.Needs.{needs}
 use borrow.Author.Count.{below-more, below-none}
 use denote.Ref.{now}
@@ -8,10 +8,10 @@ use mathlib.Core.List.{List}
 use Prim.Native.Nat.{ℕ, _≤_, _<_, _-_}
 use lib.ListN.{length, getD}
 use lib.Seq.{ext-getD}
-use Rattle.cells.specs.Strings.{sameBytes}
-use Rattle.cells.proofs.Strings.{same-refl, same-false}
-use Rattle.cells.proofs.same_bytes.Statement.{statement}
-use Rattle.cells.proofs.same_bytes.Tie as tie
+use Rattle.strings.specs.Strings.{sameBytes}
+use Rattle.strings.proofs.Strings.{same-refl, same-false}
+use Rattle.strings.proofs.same_bytes.Statement.{statement}
+use Rattle.strings.proofs.same_bytes.Tie as tie
 
 abbrev Inv-loop : tie.InvT-loop
 Inv-loop a b i₀ i = (i ≤ length a) × (length a ≡ length b) × ((k : ℕ) → k < i → getD a k 0 ≡ getD b k 0)

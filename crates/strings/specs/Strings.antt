@@ -4,8 +4,8 @@ use mathlib.Core.Bool.{Bool, true, false}
 use mathlib.Core.List.{List, [], _∷_, _++_}
 use lib.Dec.{eqb}
 use lib.ListN.{length, take, drop}
-use Rattle.cells.specs.declared.Ending.{Ending}
-use Rattle.cells.specs.declared.Ending.the-variants.{At, Nowhere}
+use Rattle.strings.specs.declared.Ending.{Ending}
+use Rattle.strings.specs.declared.Ending.the-variants.{At, Nowhere}
 
 -- what a run of bytes begins with: a string and its zero byte, or no string, since no zero byte follows
 pub data Text : Type 0 where

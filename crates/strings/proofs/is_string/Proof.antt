@@ -1,11 +1,11 @@
--- `cells::is_string` meets its contract. Assumes nothing.
+-- `strings::is_string` meets its contract. Assumes nothing.
 use mathlib.Core.Path.{sym, _∙_}
 use native.Mathlib.Omega.{arith}
 use lib.ListN.{length-take}
-use Rattle.cells.proofs.Strings.{other-length, other-end, string-front}
+use Rattle.strings.proofs.Strings.{other-length, other-end, string-front}
 use borrow.Author.Needs.{needs}
-use Rattle.cells.proofs.is_string.Statement.{statement}
-use Rattle.cells.proofs.is_string.Tie as tie
+use Rattle.strings.proofs.is_string.Statement.{statement}
+use Rattle.strings.proofs.is_string.Tie as tie
 
 returns : tie.Need-returns
 returns c = sym (other-length _ _ (λ e. omega arith))
