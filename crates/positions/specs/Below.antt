@@ -1,6 +1,8 @@
 -- Tests of the positions below a bound.
 use Prim.Native.Nat.{ℕ, zero, suc, _+_}
 use mathlib.Core.Bool.{Bool, true, false, _&&_, _||_, cond}
+use Rattle.positions.specs.declared.Position.{Position}
+use Rattle.positions.specs.declared.Position.the-variants.{Nowhere, At}
 
 -- every position below n passes a test
 unfoldable pub every : ℕ → (ℕ → Bool) → Bool
@@ -21,7 +23,12 @@ unfoldable pub count : ℕ → (ℕ → Bool) → ℕ
 count zero p = 0
 count (suc n) p = count n p + oneIf (p n)
 
--- the first position below n that passes a test; n where none does
-unfoldable pub firstThat : ℕ → (ℕ → Bool) → ℕ
-firstThat zero p = zero
-firstThat (suc n) p = cond (p zero) zero (suc (firstThat n (λ i. p (suc i))))
+-- a position, counted from one position earlier
+abbrev pub fromBefore : Position → Position
+fromBefore Nowhere = Nowhere
+fromBefore (At i) = At (suc i)
+
+-- the first position below n that passes a test; nowhere where none does
+unfoldable pub firstThat : ℕ → (ℕ → Bool) → Position
+firstThat zero p = Nowhere
+firstThat (suc n) p = cond (p zero) (At zero) (fromBefore (firstThat n (λ i. p (suc i))))

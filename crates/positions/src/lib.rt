@@ -24,6 +24,12 @@ pub struct Set {
     pub words: [u64; WORDS],
 }
 
+// What a search among positions answers: a position, or that there is none.
+pub enum Position {
+    Nowhere,
+    At(usize),
+}
+
 // Whether a bit of a word is set, the lowest being bit 0.
 pub fn bit_set(word: u64, i: u32) -> bool
     ensures { λ r. ⌜ r ≡ bit word i ⌝ }
