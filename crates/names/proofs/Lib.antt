@@ -1,2 +1,3 @@
 pub mod Texts
 pub mod NameLaws
+pub mod Answers

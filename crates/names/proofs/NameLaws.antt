@@ -1,6 +1,6 @@
 -- Laws of node and property names: what the characters passed say of the whole name, and what a name that was read says. Assumes nothing.
 use mathlib.Core.Path.{_≡_, refl, sym, ap, _∙_}
-use mathlib.Core.Bool.{Bool, true, false, not}
+use mathlib.Core.Bool.{Bool, true, false, not, cond}
 use mathlib.Core.List.{List, [], _∷_, _++_, append-assoc, append-nil}
 use Prim.Native.Nat.{ℕ, suc, _+_, _-_, _<_, _≤_, min}
 use native.Mathlib.Omega.{arith}
@@ -9,8 +9,7 @@ use lib.Dec.{eqb, leb}
 use lib.ListN.{getD, length, length-append}
 use Rattle.characters.specs.Characters.{isNodeCharacter, isPropertyCharacter, oneIf}
 use Rattle.strings.specs.Strings.{Text, ended, unended, onto, textAt}
-use Rattle.names.specs.declared.NameRead.{NameRead}
-use Rattle.names.specs.declared.NameRead.the-variants.{Good, Bad}
+use Rattle.refusal.specs.Refusal.{Outcome, answer, refuse}
 use Rattle.names.specs.Names.{mostNodeName, mostPropertyName, atSign, both, either, every, atSigns, firstIsPlain, lastIsPlain, lengthWithin, nodeCharacters, isNodeName, isPropertyName, isRootName, readName, nodeNameAt, propertyNameAt, rootNameAt}
 use Rattle.strings.proofs.Strings.{text-none, text-empty, text-more, text-within}
 use Rattle.names.proofs.Texts.{prefixed, prefixed-onto}
@@ -53,25 +52,25 @@ module _ {s : List ℕ} {from end i : ℕ} {cs : List ℕ} (p : Passed s from en
   text-whole h z = p .whole ∙ ap (prefixed cs) (text-empty s end i h z) ∙ ap ended (append-nil cs)
 
   -- no string that begins with the characters passed is good
-  never : (good : Text → Bool) → ((ds : List ℕ) → good (ended (cs ++ ds)) ≡ false) → Bad ≡ readName good (textAt s from end)
+  never : (good : Text → Bool) → ((ds : List ℕ) → good (ended (cs ++ ds)) ≡ false) → refuse 0 7 ≡ readName good (textAt s from end)
   never good h = rw (p .whole) (go (textAt s i end))
     where
-      go : (t : Text) → Bad ≡ readName good (prefixed cs t)
+      go : (t : Text) → refuse 0 7 ≡ readName good (prefixed cs t)
       go (ended ds) = rw (h ds)
       go unended = refl
 
-  good-here : (good : Text → Bool) → i < min (length s) end → getD s i 0 ≡ 0 → good (ended cs) ≡ true → Good (i - from) ≡ readName good (textAt s from end)
-  good-here good h z g = rw (text-whole h z, g, readName) (ap Good (omega (arith, p .long)))
+  good-here : (good : Text → Bool) → i < min (length s) end → getD s i 0 ≡ 0 → good (ended cs) ≡ true → answer (i - from) ≡ readName good (textAt s from end)
+  good-here good h z g = rw (text-whole h z, g, readName) (ap answer (omega (arith, p .long)))
 
-  bad-here : (good : Text → Bool) → i < min (length s) end → getD s i 0 ≡ 0 → good (ended cs) ≡ false → Bad ≡ readName good (textAt s from end)
+  bad-here : (good : Text → Bool) → i < min (length s) end → getD s i 0 ≡ 0 → good (ended cs) ≡ false → refuse 0 7 ≡ readName good (textAt s from end)
   bad-here good h z g = rw (text-whole h z, g, readName)
 
   -- a search that went past the block, or past `most` characters, where no longer string is good
   past : (good : Text → Bool) (most : ℕ) → ((ds : List ℕ) → most < length ds → good (ended ds) ≡ false)
-      → min (min (length s) end) (from + most + 1) ≤ i → Bad ≡ readName good (textAt s from end)
+      → min (min (length s) end) (from + most + 1) ≤ i → refuse 0 7 ≡ readName good (textAt s from end)
   past good most f h = go (leb (min (length s) end) i) refl
     where
-      go : (t : Bool) → leb (min (length s) end) i ≡ t → Bad ≡ readName good (textAt s from end)
+      go : (t : Bool) → leb (min (length s) end) i ≡ t → refuse 0 7 ≡ readName good (textAt s from end)
       go true e = rw (p .whole, text-none s end i (leb-true (min (length s) end) i e))
       go false e =
           never good (λ ds. f (cs ++ ds) (omega (arith, p .long, leb-false (min (length s) end) i e, length-append cs ds)))
@@ -222,7 +221,7 @@ unfolding isNodeCharacter
 sign-no-node = refl
 
 module _ {s : List ℕ} {from end : ℕ} {split fresh : Bool} {i : ℕ} (r : NodePassed s from end split fresh i) where
-  pub node-past : min (min (length s) end) (from + mostNodeName + 1) ≤ i → Bad ≡ nodeNameAt s from end
+  pub node-past : min (min (length s) end) (from + mostNodeName + 1) ≤ i → refuse 0 7 ≡ nodeNameAt s from end
   unfolding nodeNameAt
   node-past h = past (r .passed) isNodeName mostNodeName name-long h
 
@@ -253,7 +252,7 @@ module _ {s : List ℕ} {from end : ℕ} {split fresh : Bool} {i : ℕ} (r : Nod
           last = ends-more (r .characters) c ∙ rw sign;
         }
 
-    pub node-good : fresh ≡ false → i ≤ from + mostNodeName → getD s i 0 ≡ 0 → Good (i - from) ≡ nodeNameAt s from end
+    pub node-good : fresh ≡ false → i ≤ from + mostNodeName → getD s i 0 ≡ 0 → answer (i - from) ≡ nodeNameAt s from end
     unfolding nodeNameAt
     node-good e l z =
         good-here (r .passed) isNodeName h z
@@ -263,24 +262,24 @@ module _ {s : List ℕ} {from end : ℕ} {split fresh : Bool} {i : ℕ} (r : Nod
         one-most true = omega arith
         one-most false = omega arith
 
-    pub node-other : (getD s i 0 ≡ 0 → ⊥) → (getD s i 0 ≡ atSign → ⊥) → isNodeCharacter (getD s i 0) ≡ false → Bad ≡ nodeNameAt s from end
+    pub node-other : (getD s i 0 ≡ 0 → ⊥) → (getD s i 0 ≡ atSign → ⊥) → isNodeCharacter (getD s i 0) ≡ false → refuse 0 7 ≡ nodeNameAt s from end
     unfolding nodeNameAt
     node-other z k p =
         let c = getD s i 0 in
         let other : nodeOrSign c ≡ false = rw (p, ne-eqb c atSign k) in
         never (passed-more (r .passed) h z) isNodeName (λ ds. name-every ((r .characters ++ c ∷ []) ++ ds) (never-every (r .characters) c nodeOrSign other ds))
 
-    pub node-second : getD s i 0 ≡ atSign → split ≡ true → Bad ≡ nodeNameAt s from end
+    pub node-second : getD s i 0 ≡ atSign → split ≡ true → refuse 0 7 ≡ nodeNameAt s from end
     unfolding nodeNameAt
     node-second k p =
         never (passed-more (r .passed) h (λ z. omega arith)) isNodeName
         (λ ds. rw k (never-second (r .characters) ds (rw (r .signs, p) (omega arith))))
 
-    pub node-fresh : fresh ≡ true → isNodeCharacter (getD s i 0) ≡ false → Bad ≡ nodeNameAt s from end
+    pub node-fresh : fresh ≡ true → isNodeCharacter (getD s i 0) ≡ false → refuse 0 7 ≡ nodeNameAt s from end
     unfolding nodeNameAt
     node-fresh e p = go (eqb (getD s i 0) 0) (eqb (getD s i 0) atSign) refl refl
       where
-        go : (a b : Bool) → eqb (getD s i 0) 0 ≡ a → eqb (getD s i 0) atSign ≡ b → Bad ≡ readName isNodeName (textAt s from end)
+        go : (a b : Bool) → eqb (getD s i 0) 0 ≡ a → eqb (getD s i 0) atSign ≡ b → refuse 0 7 ≡ readName isNodeName (textAt s from end)
         go true b z k = bad-here (r .passed) isNodeName h (eqb-true (getD s i 0) 0 z) (name-end (r .characters) (r .last ∙ rw e))
         go false true z k =
             never (passed-more (r .passed) h (eqb-false (getD s i 0) 0 z)) isNodeName
@@ -302,7 +301,7 @@ unfolding isPropertyCharacter
 zero-no-property = refl
 
 module _ {s : List ℕ} {from end i : ℕ} (r : PropertyPassed s from end i) where
-  pub property-past : min (min (length s) end) (from + mostPropertyName + 1) ≤ i → Bad ≡ propertyNameAt s from end
+  pub property-past : min (min (length s) end) (from + mostPropertyName + 1) ≤ i → refuse 0 7 ≡ propertyNameAt s from end
   unfolding propertyNameAt isPropertyName
   property-past h =
       past (r .passed) isPropertyName mostPropertyName (λ ds. long-false mostPropertyName ds (every isPropertyCharacter ds)) h
@@ -316,18 +315,18 @@ module _ {s : List ℕ} {from end i : ℕ} (r : PropertyPassed s from end i) whe
           all = every-more (r .characters) (getD s i 0) isPropertyCharacter (r .all) k;
         }
 
-    pub property-other : isPropertyCharacter (getD s i 0) ≡ false → (getD s i 0 ≡ 0 → ⊥) → Bad ≡ propertyNameAt s from end
+    pub property-other : isPropertyCharacter (getD s i 0) ≡ false → (getD s i 0 ≡ 0 → ⊥) → refuse 0 7 ≡ propertyNameAt s from end
     unfolding propertyNameAt isPropertyName
     property-other p z =
         never (passed-more (r .passed) h z) isPropertyName
         (λ ds. both-right (lengthWithin mostPropertyName ((r .characters ++ getD s i 0 ∷ []) ++ ds)) (never-every (r .characters) (getD s i 0) isPropertyCharacter p ds))
 
-    pub property-empty : getD s i 0 ≡ 0 → i ≡ from → Bad ≡ propertyNameAt s from end
+    pub property-empty : getD s i 0 ≡ 0 → i ≡ from → refuse 0 7 ≡ propertyNameAt s from end
     unfolding propertyNameAt isPropertyName
     property-empty z e =
         bad-here (r .passed) isPropertyName h z (rw (lt-leb 1 (length (r .characters)) (omega (arith, r .passed .long))))
 
-    pub property-good : getD s i 0 ≡ 0 → (i ≡ from → ⊥) → i ≤ from + mostPropertyName → Good (i - from) ≡ propertyNameAt s from end
+    pub property-good : getD s i 0 ≡ 0 → (i ≡ from → ⊥) → i ≤ from + mostPropertyName → answer (i - from) ≡ propertyNameAt s from end
     unfolding propertyNameAt isPropertyName
     property-good z e l =
         good-here (r .passed) isPropertyName h z
@@ -360,42 +359,45 @@ pub record NameGood (good : Text → Bool) (s : List ℕ) (from end n : ℕ) : T
   pub inBlock : from + n < end
   pub inBytes : from + n < length s
 
-name-read : (good : Text → Bool) (s : List ℕ) (from end n : ℕ) → readName good (textAt s from end) ≡ Good n → NameGood good s from end n
+pub refused-not-answered : {n : ℕ} → refuse 0 7 ≡ answer n → ⊥
+refused-not-answered p = let z : _≡_ {A = ℕ} 7 0 = ap (λ (o : Outcome ℕ). o .number) p in omega arith
+
+name-read : (good : Text → Bool) (s : List ℕ) (from end n : ℕ) → readName good (textAt s from end) ≡ answer n → NameGood good s from end n
 name-read good s from end n e = go (textAt s from end) refl e
   where
     decided : (cs : List ℕ) (b : Bool) → textAt s from end ≡ ended cs → good (ended cs) ≡ b
-        → (elim b as (λ _. NameRead) [ true ↦ Good (length cs) | false ↦ Bad ]) ≡ Good n → NameGood good s from end n
+        → cond b (answer (length cs)) (refuse 0 7) ≡ answer n → NameGood good s from end n
     decided cs true t g p =
-        let l : length cs ≡ n = cc in
+        let l : length cs ≡ n = ap (λ (o : Outcome ℕ). o .value) p in
         let w = text-within s from end cs t in
         record { characters = cs; text = t; right = g; long = l; inBlock = omega arith; inBytes = omega arith }
-    decided cs false t g p = absurd (let z : _≡_ {A = ℕ} 0 1 = cc in omega arith)
+    decided cs false t g p = absurd (refused-not-answered p)
 
-    go : (t : Text) → textAt s from end ≡ t → readName good t ≡ Good n → NameGood good s from end n
+    go : (t : Text) → textAt s from end ≡ t → readName good t ≡ answer n → NameGood good s from end n
     go (ended cs) t p = decided cs (good (ended cs)) t refl p
-    go unended t p = absurd (let z : _≡_ {A = ℕ} 0 1 = cc in omega arith)
+    go unended t p = absurd (refused-not-answered p)
 
-pub node-name-good : (s : List ℕ) (from end n : ℕ) → nodeNameAt s from end ≡ Good n → NameGood isNodeName s from end n
+pub node-name-good : (s : List ℕ) (from end n : ℕ) → nodeNameAt s from end ≡ answer n → NameGood isNodeName s from end n
 unfolding nodeNameAt
 node-name-good s from end n e = name-read isNodeName s from end n e
 
-pub property-name-good : (s : List ℕ) (from end n : ℕ) → propertyNameAt s from end ≡ Good n → NameGood isPropertyName s from end n
+pub property-name-good : (s : List ℕ) (from end n : ℕ) → propertyNameAt s from end ≡ answer n → NameGood isPropertyName s from end n
 unfolding propertyNameAt
 property-name-good s from end n e = name-read isPropertyName s from end n e
 
 -- a name that is not as it should be
-name-not-read : (good : Text → Bool) → good unended ≡ false → (t : Text) → readName good t ≡ Bad → good t ≡ false
+name-not-read : (good : Text → Bool) → good unended ≡ false → (t : Text) → readName good t ≡ refuse 0 7 → good t ≡ false
 name-not-read good z unended e = z
 name-not-read good z (ended cs) e = go (good (ended cs)) e
   where
-    go : (b : Bool) → (elim b as (λ _. NameRead) [ true ↦ Good (length cs) | false ↦ Bad ]) ≡ Bad → b ≡ false
-    go true p = let q : _≡_ {A = ℕ} 0 1 = cc in absurd (omega arith)
+    go : (b : Bool) → cond b (answer (length cs)) (refuse 0 7) ≡ refuse 0 7 → b ≡ false
+    go true p = absurd (refused-not-answered (sym p))
     go false p = refl
 
-pub node-name-bad : (s : List ℕ) (from end : ℕ) → nodeNameAt s from end ≡ Bad → isNodeName (textAt s from end) ≡ false
+pub node-name-bad : (s : List ℕ) (from end : ℕ) → nodeNameAt s from end ≡ refuse 0 7 → isNodeName (textAt s from end) ≡ false
 unfolding nodeNameAt isNodeName
 node-name-bad s from end e = name-not-read isNodeName refl (textAt s from end) e
 
-pub property-name-bad : (s : List ℕ) (from end : ℕ) → propertyNameAt s from end ≡ Bad → isPropertyName (textAt s from end) ≡ false
+pub property-name-bad : (s : List ℕ) (from end : ℕ) → propertyNameAt s from end ≡ refuse 0 7 → isPropertyName (textAt s from end) ≡ false
 unfolding propertyNameAt isPropertyName
 property-name-bad s from end e = name-not-read isPropertyName refl (textAt s from end) e

@@ -1,9 +1,10 @@
 -- Node names and property names (document 01, "The walk").
 use Prim.Native.Nat.{ℕ, suc}
-use mathlib.Core.Bool.{Bool, true, false, not}
+use mathlib.Core.Bool.{Bool, true, false, not, cond}
 use mathlib.Core.List.{List, [], _∷_}
 use lib.Dec.{eqb, leb}
 use lib.ListN.{length}
+use Rattle.refusal.specs.Refusal.{Outcome, answer, refuse}
 use Rattle.characters.specs.Characters.{isNodeCharacter, isPropertyCharacter}
 use Rattle.strings.specs.Strings.{Text, ended, unended, sameBytes, textAt}
 use Rattle.names.specs.declared.NameRead.{NameRead}
@@ -79,15 +80,21 @@ sameText (ended cs) (ended ds) = sameBytes cs ds
 sameText (ended cs) unended = false
 sameText unended t = false
 
--- the outcome of reading a name that begins at a place: its length, or that it is not as it should be
-abbrev pub readName : (Text → Bool) → Text → NameRead
-readName good unended = Bad
-readName good (ended cs) = elim (good (ended cs)) [ true ↦ Good (length cs) | false ↦ Bad ]
+-- how a name that was read ends: with the number of its characters, or with 7, "name not as below"
+abbrev pub nameOutcome : NameRead → Outcome ℕ
+nameOutcome (Good n) = answer n
+nameOutcome Bad = refuse 0 7
 
-unfoldable pub nodeNameAt : List ℕ → ℕ → ℕ → NameRead
+-- the outcome of reading a text as a name
+abbrev pub readName : (Text → Bool) → Text → Outcome ℕ
+readName good unended = refuse 0 7
+readName good (ended cs) = cond (good (ended cs)) (answer (length cs)) (refuse 0 7)
+
+-- that of the name that begins at a place, in a block that ends at `end`
+unfoldable pub nodeNameAt : List ℕ → ℕ → ℕ → Outcome ℕ
 nodeNameAt s from end = readName isNodeName (textAt s from end)
 
-unfoldable pub propertyNameAt : List ℕ → ℕ → ℕ → NameRead
+unfoldable pub propertyNameAt : List ℕ → ℕ → ℕ → Outcome ℕ
 propertyNameAt s from end = readName isPropertyName (textAt s from end)
 
 unfoldable pub rootNameAt : List ℕ → ℕ → ℕ → Bool

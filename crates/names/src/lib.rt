@@ -2,7 +2,7 @@
 ghost use mathlib.Core.Path.{_≡_};
 ghost use Prim.Native.Nat.{_+_, min};
 ghost use lib.ListN.{length};
-ghost use Rattle.names.specs.Names.{nodeNameAt, propertyNameAt, rootNameAt};
+ghost use Rattle.names.specs.Names.{nameOutcome, nodeNameAt, propertyNameAt, rootNameAt};
 
 // The most characters of a node name, unit address included.
 pub const MOST_NODE_NAME: usize = 63;
@@ -32,10 +32,10 @@ fn search_end(s: &[u8], from: usize, end: usize, most: usize) -> usize
     from + most + 1
 }
 
-// The node name that begins at `from`, in a block that ends at `end`. Each part, before and behind the `@`, is `fresh`
+// The node name that begins at `from`, in a block that ends at `end`. Refusal: 7. Each part, before and behind the `@`, is `fresh`
 // until it has a character.
 pub fn node_name(s: &[u8], from: usize, end: usize) -> NameRead
-    ensures { λ r. ⌜ r ≡ nodeNameAt (now (s .entry)) from end ⌝ }
+    ensures { λ r. ⌜ nameOutcome r ≡ nodeNameAt (now (s .entry)) from end ⌝ }
 {
     let stop = search_end(s, from, end, MOST_NODE_NAME);
     let table = characters::entries();
@@ -68,9 +68,9 @@ pub fn node_name(s: &[u8], from: usize, end: usize) -> NameRead
     NameRead::Bad
 }
 
-// The property name that begins at `from`, in a block that ends at `end`.
+// The property name that begins at `from`, in a block that ends at `end`. Refusal: 7.
 pub fn property_name(s: &[u8], from: usize, end: usize) -> NameRead
-    ensures { λ r. ⌜ r ≡ propertyNameAt (now (s .entry)) from end ⌝ }
+    ensures { λ r. ⌜ nameOutcome r ≡ propertyNameAt (now (s .entry)) from end ⌝ }
 {
     let stop = search_end(s, from, end, MOST_PROPERTY_NAME);
     let table = characters::entries();

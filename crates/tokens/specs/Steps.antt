@@ -1,8 +1,9 @@
 -- What stands at a place of a block of tokens (document 01, "The walk": "1 begin node, 2 end node, 3 property, 4 NOP (skipped), 9 end").
 use Prim.Native.Nat.{ℕ, _+_, _*_, _/_}
-use mathlib.Core.Bool.{Bool, true, false}
-use mathlib.Core.List.{List}
+use mathlib.Core.Bool.{Bool, true, false, not, _||_}
+use mathlib.Core.List.{List, [], _∷_}
 use lib.Dec.{leb, eqb}
+use Rattle.refusal.specs.Checks.{Check, check}
 use Rattle.cells.specs.Cells.{cellAt}
 use Rattle.tokens.specs.declared.Cursor.{Cursor}
 use Rattle.tokens.specs.declared.Step.{Step}
@@ -42,3 +43,24 @@ stepAt s end at =
     (pick (eqb (cellAt s at) 9) (End at)
     (Fault at))))))
     (Fault end)
+
+-- the number of what stands at a place: a token is no refusal; a fault is 6, "token unknown, out of place or cut short"
+abbrev pub stepNumber : Step → ℕ
+stepNumber (BeginNode at name) = 0
+stepNumber (EndNode at next) = 0
+stepNumber (Property at value length name next) = 0
+stepNumber (Nop at next) = 0
+stepNumber (End at) = 0
+stepNumber (Fault at) = 6
+
+-- "1 begin node, 2 end node, 3 property, 4 NOP (skipped), 9 end"
+abbrev pub isTokenKind : ℕ → Bool
+isTokenKind k = eqb k 1 || eqb k 2 || eqb k 3 || eqb k 4 || eqb k 9
+
+-- what is asked of a token by itself, in a block that ends at `end`: a cell is left, it is of a known kind, and a property is not cut short
+unfoldable pub tokenChecks : List ℕ → ℕ → ℕ → List (Check ℕ)
+tokenChecks s end at =
+    check (leb (at + 4) end) 6
+    ∷ check (isTokenKind (cellAt s at)) 6
+    ∷ check (not (eqb (cellAt s at) 3) || leb (at + 12 + padded (cellAt s (at + 4))) end) 6
+    ∷ []

@@ -1,7 +1,8 @@
 // A cursor over a block of tokens.
 ghost use mathlib.Core.Path.{_≡_};
 ghost use Prim.Native.Nat.{_+_, _<_, _≤_, _^_};
-ghost use Rattle.tokens.specs.Steps.{padded as paddedTo, propertyAt, stepAt};
+ghost use Rattle.refusal.specs.Checks.{faultOf};
+ghost use Rattle.tokens.specs.Steps.{padded as paddedTo, propertyAt, stepAt, stepNumber, tokenChecks};
 
 const BEGIN_NODE: u32 = 1;
 
@@ -85,9 +86,10 @@ fn property_at(s: &[u8], end: usize, at: usize) -> Step
 }
 
 impl Cursor {
-    // The token at the cursor, in a block that ends at `end`.
+    // The token at the cursor, in a block that ends at `end`; a fault is 6.
     pub fn step(self, s: &[u8], end: usize) -> Step
         ensures { λ r. ⌜ r ≡ stepAt (now (s .entry)) end (self .at) ⌝ }
+        ensures { λ r. ⌜ stepNumber r ≡ faultOf (tokenChecks (now (s .entry)) end (self .at)) ⌝ }
     {
         let at = self.at;
         if end <= at {
