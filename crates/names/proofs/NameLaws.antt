@@ -1,6 +1,7 @@
 -- Laws of node and property names: what the characters passed say of the whole name, and what a name that was read says. Assumes nothing.
 use mathlib.Core.Path.{_≡_, refl, sym, ap, _∙_}
 use mathlib.Core.Bool.{Bool, true, false, not, cond}
+use mathlib.Core.Logic.{_⊎_, inl, inr}
 use mathlib.Core.List.{List, [], _∷_, _++_, append-assoc, append-nil}
 use Prim.Native.Nat.{ℕ, suc, _+_, _-_, _<_, _≤_, min}
 use native.Mathlib.Omega.{arith}
@@ -376,6 +377,19 @@ name-read good s from end n e = go (textAt s from end) refl e
     go : (t : Text) → textAt s from end ≡ t → readName good t ≡ answer n → NameGood good s from end n
     go (ended cs) t p = decided cs (good (ended cs)) t refl p
     go unended t p = absurd (refused-not-answered p)
+
+-- a name is read, or it is not
+name-either : (good : Text → Bool) (t : Text) → ((n : ℕ) × (readName good t ≡ answer n)) ⊎ (readName good t ≡ refuse 0 7)
+name-either good unended = inr refl
+name-either good (ended cs) = go (good (ended cs))
+  where
+    go : (b : Bool) → ((n : ℕ) × (cond b (answer (length cs)) (refuse 0 7) ≡ answer n)) ⊎ (cond b (answer (length cs)) (refuse 0 7) ≡ refuse 0 7)
+    go true = inl (length cs, refl)
+    go false = inr refl
+
+pub node-name-either : (s : List ℕ) (from end : ℕ) → ((n : ℕ) × (nodeNameAt s from end ≡ answer n)) ⊎ (nodeNameAt s from end ≡ refuse 0 7)
+unfolding nodeNameAt
+node-name-either s from end = name-either isNodeName (textAt s from end)
 
 pub node-name-good : (s : List ℕ) (from end n : ℕ) → nodeNameAt s from end ≡ answer n → NameGood isNodeName s from end n
 unfolding nodeNameAt

@@ -1,2 +1,4 @@
 pub mod LookBack
 pub mod MarkLaws
+pub mod ReadLaws
+pub mod Answers

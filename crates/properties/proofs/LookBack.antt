@@ -6,10 +6,10 @@ use Prim.Native.Nat.{ℕ, _+_, _<_, _≤_, min}
 use native.Mathlib.Omega.{arith}
 use native.Mathlib.Decide.{decLe}
 use borrow.Author.Tests.{lt-ltb, le-ltb}
+use Rattle.refusal.specs.Refusal.{answer, refuse}
 use Rattle.strings.specs.Strings.{Text, textAt}
 use Rattle.strings.proofs.Strings.{text-none}
 use Rattle.names.specs.Names.{either, sameText, isPropertyName, propertyNameAt}
-use Rattle.names.specs.declared.NameRead.the-variants.{Good, Bad}
 use Rattle.names.proofs.NameLaws.{property-name-good, property-name-bad}
 use Rattle.tokens.specs.declared.Cursor.{Cursor}
 use Rattle.tokens.specs.declared.Step.{Step}
@@ -105,7 +105,7 @@ module _ (bytes : List ℕ) (from limit offset : ℕ) {place : ℕ} (q : place �
   pub here : textAt bytes place limit ≡ nameAt bytes from limit offset
   here = ap (λ (x : ℕ). textAt bytes x limit) q ∙ name-placed bytes from limit offset
 
-  pub good-fault : {n : ℕ} (given : Bool) → propertyNameAt bytes place limit ≡ Good n → nameFault (nameAt bytes from limit offset) given ≡ pick given 9 0
+  pub good-fault : {n : ℕ} (given : Bool) → propertyNameAt bytes place limit ≡ answer n → nameFault (nameAt bytes from limit offset) given ≡ pick given 9 0
   unfolding nameFault
   good-fault {n} given e =
       let g = property-name-good bytes place limit n e in
@@ -113,11 +113,11 @@ module _ (bytes : List ℕ) (from limit offset : ℕ) {place : ℕ} (q : place �
       rw z
 
   -- a good name, which an earlier property has or has not
-  pub name-given : (t : ℕ) (ts : List Token) {n number : ℕ} → propertyNameAt bytes place limit ≡ Good n → number ≡ pick (givenBefore t (textAt bytes place limit) ts) 9 0
+  pub name-given : (t : ℕ) (ts : List Token) {n number : ℕ} → propertyNameAt bytes place limit ≡ answer n → number ≡ pick (givenBefore t (textAt bytes place limit) ts) 9 0
       → number ≡ nameFault (nameAt bytes from limit offset) (givenBefore t (nameAt bytes from limit offset) ts)
   name-given t ts e g = g ∙ ap (λ (x : Text). pick (givenBefore t x ts) 9 0) here ∙ sym (good-fault (givenBefore t (nameAt bytes from limit offset) ts) e)
 
-  pub bad-fault : (given : Bool) → propertyNameAt bytes place limit ≡ Bad → 7 ≡ nameFault (nameAt bytes from limit offset) given
+  pub bad-fault : (given : Bool) → propertyNameAt bytes place limit ≡ refuse 0 7 → 7 ≡ nameFault (nameAt bytes from limit offset) given
   unfolding nameFault
   bad-fault given e =
       let z : isPropertyName (nameAt bytes from limit offset) ≡ false = ap isPropertyName (sym here) ∙ property-name-bad bytes place limit e in

@@ -10,10 +10,10 @@ use borrow.Author.Tests.{le-leb, lt-leb}
 use lib.Dec.{eqb}
 use lib.ListN.{length, getD, set, take, drop, length-set, drop-of-length-le}
 use lib.Seq.{drop-cons, set-out, getD-set-same, getD-set-other}
+use Rattle.refusal.specs.Refusal.{answer, refuse}
 use Rattle.strings.specs.Strings.{Text, ended, unended, textAt}
 use Rattle.strings.proofs.Strings.{text-taken, same-true}
 use Rattle.names.specs.Names.{both, either, isPropertyName, propertyNameAt, sameText}
-use Rattle.names.specs.declared.NameRead.the-variants.{Good, Bad}
 use Rattle.names.proofs.NameLaws.{property-name-good, property-name-bad}
 use Rattle.tokens.specs.Steps.{pick}
 use Rattle.tokens.specs.Tokens.{Token}
@@ -48,7 +48,7 @@ pub given-number : {r given x : Bool} → r ≡ given → r ≡ x → _≡_ {A =
 given-number g k = ap (λ (b : Bool). pick {A = ℕ} b 9 0) (sym k ∙ g)
 
 -- a good name: its mark is that of its bytes, and it is looked back for where that mark is set
-module _ (bytes : List ℕ) (from limit offset : ℕ) {place : ℕ} (q : place ≡ min limit (from + offset)) {n : ℕ} (e : propertyNameAt bytes place limit ≡ Good n) where
+module _ (bytes : List ℕ) (from limit offset : ℕ) {place : ℕ} (q : place ≡ min limit (from + offset)) {n : ℕ} (e : propertyNameAt bytes place limit ≡ answer n) where
   pub mark-read : {mark : ℕ} → mark ≡ markFrom 0 (take (place + n - place) (drop place bytes)) → mark ≡ markOf (nameAt bytes from limit offset)
   unfolding markOf
   mark-read k =
@@ -78,7 +78,7 @@ module _ (bytes : List ℕ) (from limit offset : ℕ) {place : ℕ} (q : place �
           rw z (sym (good-fault bytes from limit offset q false e))
 
 -- any other leaves the marks as they are
-pub mark-none : (bytes : List ℕ) (from limit offset : ℕ) {place : ℕ} → place ≡ min limit (from + offset) → (marks : List ℕ) → propertyNameAt bytes place limit ≡ Bad
+pub mark-none : (bytes : List ℕ) (from limit offset : ℕ) {place : ℕ} → place ≡ min limit (from + offset) → (marks : List ℕ) → propertyNameAt bytes place limit ≡ refuse 0 7
     → marks ≡ withMark (nameAt bytes from limit offset) marks
 unfolding withMark
 mark-none bytes from limit offset {place} q marks e =

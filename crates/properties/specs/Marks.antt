@@ -1,5 +1,6 @@
--- Marks: small numbers of names' characters. Equal names have equal marks, so a name whose mark is new in its node has not been given
--- there. No verdict rests on which number a mark is.
+-- What the private functions that keep marks answer. A mark is a small number of a name's characters. Equal names have equal marks, so
+-- that a name whose mark is new in its node has not been given there. The promises of the public functions rest on `Properties`, not on
+-- this file.
 use Prim.Native.Nat.{ℕ, _+_, _*_, _%_, _^_}
 use mathlib.Core.Bool.{Bool, not}
 use mathlib.Core.List.{List, [], _∷_}

@@ -1,23 +1,37 @@
-// The name of a property among those of its node or block.
+// The properties of a node or block: their names, and that none is given twice.
 use names::NameRead;
 use refusal::Refusal;
 use tokens::Cursor;
 use tokens::Step;
 ghost use mathlib.Core.Path.{_≡_};
 ghost use Prim.Native.Nat.{_+_, min};
+ghost use mathlib.Core.List.{[]};
 ghost use lib.ListN.{set};
 ghost use Rattle.strings.specs.Strings.{textAt, ended};
 ghost use Rattle.names.specs.Names.{both, sameText};
-ghost use Rattle.refusal.specs.Refusal.{numberOf};
+ghost use Rattle.refusal.specs.Refusal.{numberOf, fault, placed, refuseAt};
 ghost use Rattle.tokens.specs.Steps.{pick};
 ghost use Rattle.tokens.specs.Tokens.{tokens};
 ghost use Rattle.properties.specs.Marks.{markFrom, markOf, isSet, withMark};
-ghost use Rattle.properties.specs.Properties.{nameAt, givenBefore, nameFault};
+ghost use Rattle.properties.specs.Properties.{
+  nameAt,
+  givenBefore,
+  nameFault,
+  readProperties,
+  propertiesOutcome,
+};
 
 // Where a strings block begins and ends, in the bytes that hold it.
 pub struct StringsBlock {
     pub from: usize,
     pub limit: usize,
+}
+
+// The properties of one node: a refusal with its place, or the place of the token behind them; 0 beside a refusal.
+pub struct PropertiesRead {
+    pub refusal: Refusal,
+    pub place: usize,
+    pub behind: usize,
 }
 
 // The place of a name: past the block's end where its offset is.
@@ -98,7 +112,7 @@ fn given(
 }
 
 // How many marks there are.
-pub const MARKS: usize = 256;
+const MARKS: usize = 256;
 
 // The mark of a name, one step for each character. Equal names have equal marks.
 fn mark_of(name: &[u8]) -> usize
@@ -179,8 +193,7 @@ pub fn name_refusal(
 }
 
 // The same, where `marks` has the marks of the earlier names: 9 is looked for only if the name's mark is set, and the mark is set then.
-// At most 63 bytes of the name are read; a look-back reads a token for each earlier property.
-pub fn marked_refusal(
+fn marked_refusal(
     s: &[u8],
     end: usize,
     first: usize,
@@ -214,5 +227,74 @@ pub fn marked_refusal(
             }
         }
         NameRead::Bad => Refusal::Name,
+    }
+}
+
+fn refused_properties(refusal: Refusal, place: usize) -> PropertiesRead
+    ensures { λ r. ⌜ propertiesOutcome r ≡ refuseAt 0 (fault (numberOf refusal) place) ⌝ }
+{
+    PropertiesRead {
+        refusal,
+        place,
+        behind: 0,
+    }
+}
+
+fn properties_before(behind: usize) -> PropertiesRead
+    ensures { λ r. ⌜ propertiesOutcome r ≡ placed behind ⌝ }
+{
+    PropertiesRead {
+        refusal: Refusal::None,
+        place: 0,
+        behind,
+    }
+}
+
+// The properties that begin at `first`, of one node, in a block of tokens that ends at `end`, up to the first token that is neither a
+// property nor a NOP. Refusals: 7, 9, at the property's token. At most 63 bytes of a name are read; the properties before it are looked
+// at again only where one of them has the name's mark.
+pub fn read_properties(s: &[u8], end: usize, first: usize, strings: &[u8], b: StringsBlock) -> PropertiesRead
+    ensures { λ r.
+        ⌜
+        propertiesOutcome r
+        ≡ readProperties end []
+        (tokens (now (s .entry)) end (nameAt (now (strings .entry)) (b .from) (b .limit)) first)
+        ⌝ }
+{
+    let mut marks = [0u8; MARKS];
+    let mut at = first;
+    loop {
+        let c = Cursor { at };
+        let step = c.step(s, end);
+        match step {
+            Step::Property {
+                at: t,
+                value: _,
+                length: _,
+                name,
+                next,
+            } => {
+                let refusal = marked_refusal(s, end, first, t, strings, b, name, &mut marks);
+                if refusal::number(refusal) != 0 {
+                    return refused_properties(refusal, t);
+                }
+                at = next.at;
+            }
+            Step::Nop { at: _, next } => {
+                at = next.at;
+            }
+            Step::BeginNode { at: t, name: _ } => {
+                return properties_before(t);
+            }
+            Step::EndNode { at: t, next: _ } => {
+                return properties_before(t);
+            }
+            Step::End { at: t } => {
+                return properties_before(t);
+            }
+            Step::Fault { at: t } => {
+                return properties_before(t);
+            }
+        }
     }
 }

@@ -1,7 +1,7 @@
 -- The cursor's step and the list of tokens: one equation for each kind of token. Assumes nothing.
 use mathlib.Core.Path.{_≡_, refl, sym, ap, subst, _∙_}
 use mathlib.Core.List.{List, [], _∷_}
-use Prim.Native.Nat.{ℕ, zero, suc, _+_, _-_, _<_, _≤_}
+use Prim.Native.Nat.{ℕ, zero, suc, _+_, _-_, _<_, _≤_, min}
 use native.Mathlib.Omega.{arith}
 use native.Mathlib.Decide.{decLe, ℕ-discrete}
 use lib.ListN.{length, take, drop}
@@ -143,6 +143,15 @@ module _ {s : List ℕ} {stop at : ℕ} where
   begin-is : {t : ℕ} {c : Cursor} → Is s stop at (BeginNode t c) → Moves stop at t (c .at)
   begin-is (begins r e) = record { here = refl; room = r; on = omega arith; within = r }
 
+  end-is : {t : ℕ} → Is s stop at (End t) → t ≡ at
+  end-is (stops r e) = refl
+
+  -- a fault stands where the cursor is, or at the block's end
+  fault-is : {t : ℕ} → stepAt s stop at ≡ Fault t → Is s stop at (Fault t) → (min at stop ≤ t) × (stepAt s stop t ≡ Fault t)
+  fault-is q (cut r e k) = (omega arith, q)
+  fault-is q (unknown r n1 n2 n3 n4 n9) = (omega arith, q)
+  fault-is q (none r) = (omega arith, step-none s stop stop (omega arith))
+
 module _ (s : List ℕ) (stop at : ℕ) where
   pub seen : {x : Step} → stepAt s stop at ≡ x → Is s stop at x
   seen e = subst (Is s stop at) e (view s stop at)
@@ -158,3 +167,9 @@ module _ (s : List ℕ) (stop at : ℕ) where
 
   pub begin-moves : {t : ℕ} {c : Cursor} → stepAt s stop at ≡ BeginNode t c → Moves stop at t (c .at)
   begin-moves e = begin-is (seen e)
+
+  pub end-here : {t : ℕ} → stepAt s stop at ≡ End t → t ≡ at
+  end-here e = end-is (seen e)
+
+  pub fault-stays : {t : ℕ} → stepAt s stop at ≡ Fault t → (min at stop ≤ t) × (stepAt s stop t ≡ Fault t)
+  fault-stays e = fault-is e (seen e)

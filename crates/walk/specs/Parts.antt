@@ -1,21 +1,17 @@
 -- What the parts of the walk's code answer. The promise of `check_tree` rests on `Checked`, not on this file.
 use Prim.Native.Nat.{ℕ, zero, suc, _+_, _*_, _/_, _≤_}
 use mathlib.Core.Path.{_≡_}
-use mathlib.Core.Bool.{Bool, false}
 use mathlib.Core.List.{List, [], _∷_, _++_}
 use lib.Dec.{eqb}
 use lib.ListN.{length}
-use Rattle.strings.specs.Strings.{Text, ended, unended, sameBytes}
+use Rattle.strings.specs.Strings.{ended, unended, sameBytes}
 use Rattle.names.specs.Names.{nodeNameAt}
-use Rattle.names.specs.declared.NameRead.the-variants.{Good, Bad}
-use Rattle.refusal.specs.Refusal.{numberOf, Placed, placed, refuseAt, fault as refusedAt}
+use Rattle.refusal.specs.Refusal.{numberOf, Outcome, Placed, placed, refuseAt, fault as refusedAt}
 use Rattle.header.specs.declared.Blocks.{Blocks}
 use Rattle.tokens.specs.declared.Step.the-variants.{BeginNode, EndNode, Property, Nop, End, Fault as NoToken}
 use Rattle.tokens.specs.Steps.{pick, stepAt}
 use Rattle.tokens.specs.Tokens.{Token, beginNode, endNode, property, nop, end, fault}
-use Rattle.properties.specs.Properties.{givenBefore, nameFault}
-use Rattle.properties.specs.Marks.{markOf, isSet, withMark}
-use Rattle.walk.specs.Walk.{Verdict, accepted, refused, State, afterRoot, walk, nameIn, treeTokens}
+use Rattle.walk.specs.Walk.{Verdict, accepted, refused, State, afterRoot, walk, treeTokens}
 use Rattle.walk.specs.Containers.{containerName}
 use Rattle.walk.specs.declared.Containers.{Containers}
 use Rattle.walk.specs.Checked.{noLayout}
@@ -38,46 +34,23 @@ partOf (Child at name length next) = child at name length (next .at)
 partOf (Close next) = close (next .at)
 partOf (Fault refusal at) = stopAt (numberOf refusal) at
 
--- a property of a node whose contents begin at `first`, by the fault of its name
-abbrev pub orSkip : ℕ → ℕ → ℕ → Part
-orSkip zero t next = skip next
-orSkip (suc n) t next = stopAt (suc n) t
+-- a child node by its name, which begins at `from`: its length, or its fault
+abbrev pub childBy : Outcome ℕ → ℕ → ℕ → Part
+childBy o t from = elim (o .number) [ zero ↦ child t from (o .value) (from + (o .value / 4 + 1) * 4) | suc n ↦ stopAt (suc n) t ]
 
-unfoldable pub propertyPart : List ℕ → Blocks → ℕ → ℕ → ℕ → ℕ → Part
-propertyPart s b first t offset next =
-    orSkip (nameFault (nameIn s b offset) (givenBefore t (nameIn s b offset) (treeTokens s b first))) t next
-
--- a child node, whose name begins at `from`
 unfoldable pub childPart : List ℕ → Blocks → ℕ → ℕ → Part
-childPart s b t from =
-    elim (nodeNameAt s from (b .end)) [ Good n ↦ child t from n (from + (n / 4 + 1) * 4) | Bad ↦ stopAt 7 t ]
+childPart s b t from = childBy (nodeNameAt s from (b .end)) t from
 
--- what stands at a place in a node whose contents begin at `first`; early: no child node has come yet
-unfoldable pub partAt : List ℕ → Blocks → ℕ → ℕ → Bool → Part
-partAt s b first at early =
+-- what stands at a place in a node, behind its properties: a property has no place there
+unfoldable pub partAt : List ℕ → Blocks → ℕ → Part
+partAt s b at =
     elim (stepAt s (b .end) at) [
       | BeginNode t name ↦ childPart s b t (name .at)
       | EndNode t next ↦ close (next .at)
-      | Property t value size name next ↦ pick early (propertyPart s b first t name (next .at)) (stopAt 6 t)
+      | Property t value size name next ↦ stopAt 6 t
       | Nop t next ↦ skip (next .at)
       | End t ↦ stopAt 6 t
       | NoToken t ↦ stopAt 6 t
-    ]
-
--- the marks of a node's properties before a place: a name whose mark is not set has not been given there
-abbrev pub Marked : List ℕ → Blocks → ℕ → ℕ → List ℕ → Type 0
-Marked s b first at marks = (n : Text) → isSet marks (markOf n) ≡ false → givenBefore at n (treeTokens s b first) ≡ false
-
--- the marks once what stands at a place has been read
-unfoldable pub marksAt : List ℕ → Blocks → ℕ → Bool → List ℕ → List ℕ
-marksAt s b at early marks =
-    elim (stepAt s (b .end) at) [
-      | BeginNode t name ↦ marks
-      | EndNode t next ↦ marks
-      | Property t value size name next ↦ pick early (withMark (nameIn s b name) marks) marks
-      | Nop t next ↦ marks
-      | End t ↦ marks
-      | NoToken t ↦ marks
     ]
 
 abbrev pub none : Containers

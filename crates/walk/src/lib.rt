@@ -1,28 +1,27 @@
 // The walk over a tree: its header, and then its tokens, nested to sixteen levels.
 use header::Blocks;
 use names::NameRead;
+use properties::PropertiesRead;
 use properties::StringsBlock;
 use refusal::Refusal;
 use tokens::Cursor;
 use tokens::Step;
 ghost use mathlib.Core.Path.{_≡_};
-ghost use mathlib.Core.Bool.{true, false};
 ghost use Prim.Native.Nat.{_+_, _-_, _<_, _≤_};
 ghost use lib.ListN.{length as length-of, take, drop};
 ghost use mathlib.Core.List.{[]};
 ghost use Rattle.refusal.specs.Refusal.{numberOf, fault, refuseAt};
-ghost use Rattle.properties.specs.Marks.{withMark};
+ghost use Rattle.properties.specs.Properties.{readProperties, propertiesOutcome};
 ghost use Rattle.walk.specs.Walk.{
   beforeRoot,
   inProperties,
   parentOf,
   mostLevels,
   walk,
-  nameIn,
   treeTokens,
 };
 ghost use Rattle.walk.specs.Checked.{noLayout, judge, checkTree, checkedOutcome};
-ghost use Rattle.walk.specs.Parts.{partOf, stopAt, propertyPart, childPart, partAt, Marked, marksAt, none, note, Reads, Ends, Closes};
+ghost use Rattle.walk.specs.Parts.{partOf, stopAt, childPart, partAt, none, note, Reads, Ends, Closes};
 
 // The most levels of nodes, the root's among them.
 pub const MOST_LEVELS: usize = 16;
@@ -68,32 +67,15 @@ enum NodeRead {
     Stop { refusal: Refusal, at: usize },
 }
 
-// A property at `t` of a node whose contents begin at `first`; `marks` has the marks of the names before it, and then its own.
-fn property_item(
-    tree: &[u8],
-    b: Blocks,
-    first: usize,
-    t: usize,
-    offset: usize,
-    next: Cursor,
-    marks: &mut [u8],
-) -> Item
-    requires { ⌜ Marked (now tree) b first t (now marks) ⌝ }
-    ensures { λ r.
-        ⌜
-        (partOf r ≡ propertyPart (now (tree .entry)) b first t offset (next .at))
-        × (now (marks .exit) ≡ withMark (nameIn (now (tree .entry)) b offset) (now (marks .entry)))
-        ⌝ }
+// The properties of a node whose contents begin at `from`.
+fn properties_at(tree: &[u8], b: Blocks, from: usize) -> PropertiesRead
+    ensures { λ r. ⌜ propertiesOutcome r ≡ readProperties (b .end) [] (treeTokens (now (tree .entry)) b from) ⌝ }
 {
     let strings = StringsBlock {
         from: b.strings,
         limit: b.limit,
     };
-    let refusal = properties::marked_refusal(tree, b.end, first, t, tree, strings, offset, marks);
-    if refusal::number(refusal) != 0 {
-        return Item::Fault { refusal, at: t };
-    }
-    Item::Skip(next)
+    properties::read_properties(tree, b.end, from, tree, strings)
 }
 
 // A child node at `t`, whose name begins at `from`.
@@ -118,6 +100,16 @@ fn child_item(tree: &[u8], b: Blocks, t: usize, from: usize) -> Item
     }
 }
 
+// A seventeenth level.
+fn too_deep(at: usize) -> NodeRead
+    ensures { λ r. ⌜ r ≡ NodeRead.Stop Refusal.TooMany at ⌝ }
+{
+    NodeRead::Stop {
+        refusal: Refusal::TooMany,
+        at,
+    }
+}
+
 fn stopped(at: usize) -> NodeRead
     ensures { λ r. ⌜ r ≡ NodeRead.Stop Refusal.Token at ⌝ }
 {
@@ -136,15 +128,9 @@ fn misplaced(at: usize) -> Item
     }
 }
 
-// What stands at a place in a node whose contents begin at `first`; `early` while no child node has come, and `marks` has the marks
-// of the names of its properties.
-fn item_at(tree: &[u8], b: Blocks, first: usize, at: usize, early: bool, marks: &mut [u8]) -> Item
-    requires { ⌜ (early ≡ true → Marked (now tree) b first at (now marks)) ⌝ }
-    ensures { λ r.
-        ⌜
-        (partOf r ≡ partAt (now (tree .entry)) b first at early)
-        × (now (marks .exit) ≡ marksAt (now (tree .entry)) b at early (now (marks .entry)))
-        ⌝ }
+// What stands at a place in a node, behind its properties.
+fn item_at(tree: &[u8], b: Blocks, at: usize) -> Item
+    ensures { λ r. ⌜ partOf r ≡ partAt (now (tree .entry)) b at ⌝ }
 {
     let end = b.end;
     let c = Cursor { at };
@@ -156,15 +142,9 @@ fn item_at(tree: &[u8], b: Blocks, first: usize, at: usize, early: bool, marks: 
             at: t,
             value: _,
             length: _,
-            name,
-            next,
-        } => {
-            if early {
-                property_item(tree, b, first, t, name, next, marks)
-            } else {
-                misplaced(t)
-            }
-        }
+            name: _,
+            next: _,
+        } => misplaced(t),
         Step::Nop { at: _, next } => Item::Skip(next),
         Step::End { at: t } => misplaced(t),
         Step::Fault { at: t } => misplaced(t),
@@ -197,18 +177,22 @@ fn noted(seen: Containers, tree: &[u8], at: usize, from: usize, length: usize) -
     seen
 }
 
-// Document 01: "nesting is followed to sixteen levels and no deeper". The contents of a node, to past its end token: a call for each
-// child, the levels left falling by one.
+// Document 01: "nesting is followed to sixteen levels and no deeper". The contents of a node, to past its end token: its properties, and
+// then a call for each child, the levels left falling by one.
 fn contents(tree: &[u8], b: Blocks, from: usize, levels: usize, seen: Containers) -> NodeRead
     requires { ⌜ levels < mostLevels ⌝ }
     ensures { λ r. ⌜ Reads (now (tree .entry)) b (inProperties (mostLevels - levels) []) from seen (parentOf (mostLevels - levels)) r ⌝ }
 {
-    let mut marks = [0u8; properties::MARKS];
-    let mut at = from;
-    let mut early = true;
+    let read = properties_at(tree, b, from);
+    let refusal = read.refusal;
+    if refusal::number(refusal) != 0 {
+        let at = read.place;
+        return NodeRead::Stop { refusal, at };
+    }
+    let mut at = read.behind;
     let mut found = seen;
     loop {
-        let item = item_at(tree, b, from, at, early, &mut marks);
+        let item = item_at(tree, b, at);
         match item {
             Item::Skip(next) => {
                 at = next.at;
@@ -220,8 +204,7 @@ fn contents(tree: &[u8], b: Blocks, from: usize, levels: usize, seen: Containers
                 next,
             } => {
                 if levels == 0 {
-                    let refusal = Refusal::TooMany;
-                    return NodeRead::Stop { refusal, at: t };
+                    return too_deep(t);
                 }
                 let now = noted(found, tree, t, name, length);
                 let inner = contents(tree, b, next.at, levels - 1, now);
@@ -230,12 +213,11 @@ fn contents(tree: &[u8], b: Blocks, from: usize, levels: usize, seen: Containers
                         next: after,
                         found: more,
                     } => {
-                        early = false;
                         at = after.at;
                         found = more;
                     }
-                    NodeRead::Stop { refusal, at: p } => {
-                        return NodeRead::Stop { refusal, at: p };
+                    NodeRead::Stop { refusal: _, at: _ } => {
+                        return inner;
                     }
                 }
             }

@@ -21,18 +21,18 @@ number-requires c κs = search needs
 
 returns : tie.Need-returns
 returns c =
-    let e = sym (c .before .before .before .before .before .before .step .ensures) ∙ c .before .before .before .before .step2 .given .1 in
+    let e = sym (c .before .before .before .before .before .before .step .ensures .0) ∙ c .before .before .before .before .step2 .given .1 in
     stands-misnamed _ _ e _ (c .before .number .ensures) (c .before .before .name-refusal .ensures) (c .if1 .taken)
 
 add-t15 : tie.Need-add-t15
 add-t15 c =
-    let e = sym (c .before .before .before .before .before .before .step .ensures) ∙ c .before .before .before .before .step2 .given .1 in
+    let e = sym (c .before .before .before .before .before .before .step .ensures .0) ∙ c .before .before .before .before .step2 .given .1 in
     let g = lies _ _ e in
     omega arith
 
 add-t18 : tie.Need-add-t18
 add-t18 c =
-    let e = sym (c .before .before .before .before .before .before .step .ensures) ∙ c .before .before .before .before .step2 .given .1 in
+    let e = sym (c .before .before .before .before .before .before .step .ensures .0) ∙ c .before .before .before .before .step2 .given .1 in
     let g = lies _ _ e in
     omega arith
 
@@ -53,23 +53,23 @@ enum-told-4 c = search needs
 
 returns-2 : tie.Need-returns-2
 returns-2 c =
-    let e = sym (c .before .before .before .before .before .before .step .ensures) ∙ c .before .before .before .before .step2 .given .1 in
+    let e = sym (c .before .before .before .before .before .before .step .ensures .0) ∙ c .before .before .before .before .step2 .given .1 in
     stands-named _ _ e _ (c .before .number .ensures) (c .before .before .name-refusal .ensures) (c .if1 .left)
 
 returns-3 : tie.Need-returns-3
-returns-3 c = skipped (sym (c .before .before .before .step .ensures) ∙ c .before .step3 .given .1)
+returns-3 c = skipped (sym (c .before .before .before .step .ensures .0) ∙ c .before .step3 .given .1)
 
 returns-4 : tie.Need-returns-4
-returns-4 c = misplaced (sym (c .before .before .step .ensures) ∙ c .enum-told .given .1) tt
+returns-4 c = misplaced (sym (c .before .before .step .ensures .0) ∙ c .enum-told .given .1) tt
 
 returns-5 : tie.Need-returns-5
-returns-5 c = misplaced (sym (c .before .before .step .ensures) ∙ c .enum-told2 .given .1) tt
+returns-5 c = misplaced (sym (c .before .before .step .ensures .0) ∙ c .enum-told2 .given .1) tt
 
 returns-6 : tie.Need-returns-6
-returns-6 c = misplaced (sym (c .before .before .step .ensures) ∙ c .enum-told3 .given .1) tt
+returns-6 c = misplaced (sym (c .before .before .step .ensures .0) ∙ c .enum-told3 .given .1) tt
 
 returns-7 : tie.Need-returns-7
-returns-7 c = misplaced (sym (c .before .before .step .ensures) ∙ c .enum-told4 .given .1) tt
+returns-7 c = misplaced (sym (c .before .before .step .ensures .0) ∙ c .enum-told4 .given .1) tt
 
 pub entry-at-spec : {M : Type 1} → statement M
 entry-at-spec =

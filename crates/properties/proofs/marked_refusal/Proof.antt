@@ -1,6 +1,7 @@
 -- `properties::marked_refusal` meets its contract. Assumes nothing.
-use mathlib.Core.Path.{sym, _∙_}
+use mathlib.Core.Path.{sym, ap, _∙_}
 use native.Mathlib.Omega.{arith}
+use Rattle.names.specs.Names.{nameOutcome}
 use Rattle.names.proofs.NameLaws.{property-name-good}
 use Rattle.properties.proofs.LookBack.{bad-fault}
 use Rattle.properties.proofs.MarkLaws.{mark-read, mark-put, mark-set, mark-new, mark-none}
@@ -19,7 +20,7 @@ enum-known-read c = search needs
 
 add-past : tie.Need-add-past
 add-past c =
-    let g = property-name-good _ _ _ _ (sym (c .before .before .before .property-name .ensures) ∙ c .before .read .given .1) in
+    let g = property-name-good _ _ _ _ (sym (c .before .before .before .property-name .ensures) ∙ ap nameOutcome (c .before .read .given .1)) in
     omega (arith, c .before .before .before .before .before .before .before .before .good)
 
 sub-mark-of : tie.Need-sub-mark-of
@@ -30,7 +31,7 @@ part-mark-of-start c = search needs
 
 part-mark-of-end : tie.Need-part-mark-of-end
 part-mark-of-end c =
-    let g = property-name-good _ _ _ _ (sym (c .before .before .before .before .property-name .ensures) ∙ c .before .before .read .given .1) in
+    let g = property-name-good _ _ _ _ (sym (c .before .before .before .before .property-name .ensures) ∙ ap nameOutcome (c .before .before .read .given .1)) in
     omega (arith, g .inBytes)
 
 mark-of-requires : tie.Need-mark-of-requires
@@ -50,7 +51,7 @@ same-length c = search needs
 
 returns : tie.Need-returns
 returns c =
-    let e = sym (c .before .before .before .before .before .before .before .before .before .before .before .property-name .ensures) ∙ c .before .before .before .before .before .before .before .before .before .read .given .1 in
+    let e = sym (c .before .before .before .before .before .before .before .before .before .before .before .property-name .ensures) ∙ ap nameOutcome (c .before .before .before .before .before .before .before .before .before .read .given .1) in
     let q = c .before .before .before .before .before .before .before .before .before .before .before .before .name-place .ensures in
     let m = mark-read _ _ _ _ q e (c .before .before .before .before .before .mark-of .ensures) in
     let s = c .before .before .before .before .set-mark .ensures in
@@ -61,7 +62,7 @@ same-length-2 c = search needs
 
 returns-2 : tie.Need-returns-2
 returns-2 c =
-    let e = sym (c .before .before .before .before .before .before .before .before .before .before .property-name .ensures) ∙ c .before .before .before .before .before .before .before .before .read .given .1 in
+    let e = sym (c .before .before .before .before .before .before .before .before .before .before .property-name .ensures) ∙ ap nameOutcome (c .before .before .before .before .before .before .before .before .read .given .1) in
     let q = c .before .before .before .before .before .before .before .before .before .before .before .name-place .ensures in
     let m = mark-read _ _ _ _ q e (c .before .before .before .before .mark-of .ensures) in
     let s = c .before .before .before .set-mark .ensures in
@@ -69,7 +70,7 @@ returns-2 c =
 
 returns-3 : tie.Need-returns-3
 returns-3 c =
-    let e = sym (c .before .before .property-name .ensures) ∙ c .enum-told .given .1 in
+    let e = sym (c .before .before .property-name .ensures) ∙ ap nameOutcome (c .enum-told .given .1) in
     let q = c .before .before .before .name-place .ensures in
     (bad-fault _ _ _ _ q _ e, mark-none _ _ _ _ q _ e)
 

@@ -24,7 +24,7 @@ enum-known-step-3 c = search needs
 
 property-item-requires : tie.Need-property-item-requires
 property-item-requires c κs =
-    let e = sym (c .before .before .before .before .before .step .ensures) ∙ c .before .before .before .step4 .given .1 in
+    let e = sym (c .before .before .before .before .before .step .ensures .0) ∙ c .before .before .before .step4 .given .1 in
     let a = c .before .before .before .before .before .before .before .before .args in
     marked-here (a .tree .now) (a .b) (a .first) (a .marks .now) (property-moves _ _ _ e .here) (c .before .before .before .before .before .before .before .before .pre (c .before .if1 .taken))
 
@@ -47,31 +47,31 @@ misplaced-requires-3 : tie.Need-misplaced-requires-3
 misplaced-requires-3 c κs = search needs
 
 returns : tie.Need-returns
-returns c = let e = sym (c .before .before .before .before .step .ensures) ∙ c .before .before .step2 .given .1 in (c .child-item .ensures ∙ part-begin _ _ _ _ _ e, marks-begin _ _ _ _ _ e)
+returns c = let e = sym (c .before .before .before .before .step .ensures .0) ∙ c .before .before .step2 .given .1 in (c .child-item .ensures ∙ part-begin _ _ _ _ _ e, marks-begin _ _ _ _ _ e)
 
 returns-2 : tie.Need-returns-2
-returns-2 c = let e = sym (c .before .before .before .step .ensures) ∙ c .before .step3 .given .1 in (part-end-node _ _ _ _ _ e, marks-end-node _ _ _ _ _ e)
+returns-2 c = let e = sym (c .before .before .before .step .ensures .0) ∙ c .before .step3 .given .1 in (part-end-node _ _ _ _ _ e, marks-end-node _ _ _ _ _ e)
 
 same-length : tie.Need-same-length
 same-length c = search needs
 
 returns-3 : tie.Need-returns-3
 returns-3 c =
-    let e = sym (c .before .before .before .before .before .before .before .before .step .ensures) ∙ c .before .before .before .before .before .before .step4 .given .1 in
+    let e = sym (c .before .before .before .before .before .before .before .before .step .ensures .0) ∙ c .before .before .before .before .before .before .step4 .given .1 in
     let p = c .before .before .property-item .ensures in
     (p .0 ∙ part-property _ _ _ _ _ e (c .before .before .before .before .if1 .taken), p .1 ∙ marks-property _ _ _ _ _ e (c .before .before .before .before .if1 .taken))
 
 returns-4 : tie.Need-returns-4
-returns-4 c = let e = sym (c .before .before .before .before .before .step .ensures) ∙ c .before .before .before .step4 .given .1 in (c .misplaced .ensures ∙ part-late _ _ _ _ _ e (c .before .if1 .left), marks-late _ _ _ _ _ e (c .before .if1 .left))
+returns-4 c = let e = sym (c .before .before .before .before .before .step .ensures .0) ∙ c .before .before .before .step4 .given .1 in (c .misplaced .ensures ∙ part-late _ _ _ _ _ e (c .before .if1 .left), marks-late _ _ _ _ _ e (c .before .if1 .left))
 
 returns-5 : tie.Need-returns-5
-returns-5 c = let e = sym (c .before .before .before .step .ensures) ∙ c .before .step5 .given .1 in (part-nop _ _ _ _ _ e, marks-nop _ _ _ _ _ e)
+returns-5 c = let e = sym (c .before .before .before .step .ensures .0) ∙ c .before .step5 .given .1 in (part-nop _ _ _ _ _ e, marks-nop _ _ _ _ _ e)
 
 returns-6 : tie.Need-returns-6
-returns-6 c = let e = sym (c .before .before .before .before .step .ensures) ∙ c .before .before .step6 .given .1 in (c .misplaced2 .ensures ∙ part-end _ _ _ _ _ e, marks-end _ _ _ _ _ e)
+returns-6 c = let e = sym (c .before .before .before .before .step .ensures .0) ∙ c .before .before .step6 .given .1 in (c .misplaced2 .ensures ∙ part-end _ _ _ _ _ e, marks-end _ _ _ _ _ e)
 
 returns-7 : tie.Need-returns-7
-returns-7 c = let e = sym (c .before .before .before .before .step .ensures) ∙ c .before .before .step7 .given .1 in (c .misplaced3 .ensures ∙ part-fault _ _ _ _ _ e, marks-fault _ _ _ _ _ e)
+returns-7 c = let e = sym (c .before .before .before .before .step .ensures .0) ∙ c .before .before .step7 .given .1 in (c .misplaced3 .ensures ∙ part-fault _ _ _ _ _ e, marks-fault _ _ _ _ _ e)
 
 pub item-at-spec : {M : Type 1} → statement M
 item-at-spec =

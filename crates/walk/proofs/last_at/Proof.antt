@@ -25,25 +25,25 @@ enum-known-step : tie.Need-enum-known-step Inv-loop μ-loop
 enum-known-step c = search needs
 
 loop-less : tie.Need-loop-less Inv-loop μ-loop
-loop-less c = let m = nop-moves _ _ _ (sym (c .before .before .before .step .ensures) ∙ c .before .step2 .given .1) in omega (arith, m .room, m .on)
+loop-less c = let m = nop-moves _ _ _ (sym (c .before .before .before .step .ensures .0) ∙ c .before .step2 .given .1) in omega (arith, m .room, m .on)
 
 loop-again : tie.Need-loop-again Inv-loop μ-loop
-loop-again c = outside-nop (c .before .before .before .before .loop .inv) (sym (c .before .before .before .step .ensures) ∙ c .before .step2 .given .1)
+loop-again c = outside-nop (c .before .before .before .before .loop .inv) (sym (c .before .before .before .step .ensures .0) ∙ c .before .step2 .given .1)
 
 enum-known-step-2 : tie.Need-enum-known-step-2 Inv-loop μ-loop
 enum-known-step-2 c = search needs
 
 add-if1 : tie.Need-add-if1 Inv-loop μ-loop
-add-if1 c = omega (arith, end-room _ _ _ (sym (c .before .before .before .step .ensures) ∙ c .before .step3 .given .1))
+add-if1 c = omega (arith, end-room _ _ _ (sym (c .before .before .before .step .ensures .0) ∙ c .before .step3 .given .1))
 
 returns : tie.Need-returns Inv-loop μ-loop
-returns c = last-accepted (c .before .before .before .before .before .loop .inv) (sym (c .before .before .before .before .step .ensures) ∙ c .before .before .step3 .given .1) (c .if1 .taken)
+returns c = last-accepted (c .before .before .before .before .before .loop .inv) (sym (c .before .before .before .before .step .ensures .0) ∙ c .before .before .step3 .given .1) (c .if1 .taken)
 
 misplaced-after-requires : tie.Need-misplaced-after-requires Inv-loop μ-loop
 misplaced-after-requires c κs = search needs
 
 returns-2 : tie.Need-returns-2 Inv-loop μ-loop
-returns-2 c = last-early (c .before .before .before .before .before .before .loop .inv) (c .misplaced-after .ensures) (sym (c .before .before .before .before .before .step .ensures) ∙ c .before .before .before .step3 .given .1) (c .before .if1 .left)
+returns-2 c = last-early (c .before .before .before .before .before .before .loop .inv) (c .misplaced-after .ensures) (sym (c .before .before .before .before .before .step .ensures .0) ∙ c .before .before .before .step3 .given .1) (c .before .if1 .left)
 
 enum-known-step-3 : tie.Need-enum-known-step-3 Inv-loop μ-loop
 enum-known-step-3 c = search needs
@@ -52,7 +52,7 @@ misplaced-after-requires-2 : tie.Need-misplaced-after-requires-2 Inv-loop μ-loo
 misplaced-after-requires-2 c κs = search needs
 
 returns-3 : tie.Need-returns-3 Inv-loop μ-loop
-returns-3 c = last-begin (c .before .before .before .before .before .loop .inv) (c .misplaced-after2 .ensures) (sym (c .before .before .before .before .step .ensures) ∙ c .before .before .step4 .given .1)
+returns-3 c = last-begin (c .before .before .before .before .before .loop .inv) (c .misplaced-after2 .ensures) (sym (c .before .before .before .before .step .ensures .0) ∙ c .before .before .step4 .given .1)
 
 enum-known-step-4 : tie.Need-enum-known-step-4 Inv-loop μ-loop
 enum-known-step-4 c = search needs
@@ -61,7 +61,7 @@ misplaced-after-requires-3 : tie.Need-misplaced-after-requires-3 Inv-loop μ-loo
 misplaced-after-requires-3 c κs = search needs
 
 returns-4 : tie.Need-returns-4 Inv-loop μ-loop
-returns-4 c = last-end-node (c .before .before .before .before .before .loop .inv) (c .misplaced-after3 .ensures) (sym (c .before .before .before .before .step .ensures) ∙ c .before .before .step5 .given .1)
+returns-4 c = last-end-node (c .before .before .before .before .before .loop .inv) (c .misplaced-after3 .ensures) (sym (c .before .before .before .before .step .ensures .0) ∙ c .before .before .step5 .given .1)
 
 enum-known-step-5 : tie.Need-enum-known-step-5 Inv-loop μ-loop
 enum-known-step-5 c = search needs
@@ -70,7 +70,7 @@ misplaced-after-requires-4 : tie.Need-misplaced-after-requires-4 Inv-loop μ-loo
 misplaced-after-requires-4 c κs = search needs
 
 returns-5 : tie.Need-returns-5 Inv-loop μ-loop
-returns-5 c = last-property (c .before .before .before .before .before .loop .inv) (c .misplaced-after4 .ensures) (sym (c .before .before .before .before .step .ensures) ∙ c .before .before .step6 .given .1)
+returns-5 c = last-property (c .before .before .before .before .before .loop .inv) (c .misplaced-after4 .ensures) (sym (c .before .before .before .before .step .ensures .0) ∙ c .before .before .step6 .given .1)
 
 enum-known-step-6 : tie.Need-enum-known-step-6 Inv-loop μ-loop
 enum-known-step-6 c = search needs
@@ -79,7 +79,7 @@ misplaced-after-requires-5 : tie.Need-misplaced-after-requires-5 Inv-loop μ-loo
 misplaced-after-requires-5 c κs = search needs
 
 returns-6 : tie.Need-returns-6 Inv-loop μ-loop
-returns-6 c = last-fault (c .before .before .before .before .before .loop .inv) (c .misplaced-after5 .ensures) (sym (c .before .before .before .before .step .ensures) ∙ c .before .before .step7 .given .1)
+returns-6 c = last-fault (c .before .before .before .before .before .loop .inv) (c .misplaced-after5 .ensures) (sym (c .before .before .before .before .step .ensures .0) ∙ c .before .before .step7 .given .1)
 
 pub last-at-spec : {M : Type 1} → statement M
 last-at-spec =

@@ -25,10 +25,10 @@ enum-known-step : tie.Need-enum-known-step Inv-loop μ-loop
 enum-known-step c = search needs
 
 loop-less : tie.Need-loop-less Inv-loop μ-loop
-loop-less c = let m = nop-moves _ _ _ (sym (c .before .before .before .step .ensures) ∙ c .before .step2 .given .1) in omega (arith, m .room, m .on)
+loop-less c = let m = nop-moves _ _ _ (sym (c .before .before .before .step .ensures .0) ∙ c .before .step2 .given .1) in omega (arith, m .room, m .on)
 
 loop-again : tie.Need-loop-again Inv-loop μ-loop
-loop-again c = outside-nop (c .before .before .before .before .loop .inv) (sym (c .before .before .before .step .ensures) ∙ c .before .step2 .given .1)
+loop-again c = outside-nop (c .before .before .before .before .loop .inv) (sym (c .before .before .before .step .ensures .0) ∙ c .before .step2 .given .1)
 
 enum-known-step-2 : tie.Need-enum-known-step-2 Inv-loop μ-loop
 enum-known-step-2 c = search needs
@@ -37,13 +37,13 @@ root-name-requires : tie.Need-root-name-requires Inv-loop μ-loop
 root-name-requires c κs = search needs
 
 add-t17 : tie.Need-add-t17 Inv-loop μ-loop
-add-t17 c = omega (arith, root-room (c .before .before .before .before .before .before .loop .inv) (sym (c .before .before .before .before .before .step .ensures) ∙ c .before .before .before .step3 .given .1) (c .before .root-name .ensures) (c .if1 .taken), c .before .before .before .before .before .before .before .before .good)
+add-t17 c = omega (arith, root-room (c .before .before .before .before .before .before .loop .inv) (sym (c .before .before .before .before .before .step .ensures .0) ∙ c .before .before .before .step3 .given .1) (c .before .root-name .ensures) (c .if1 .taken), c .before .before .before .before .before .before .before .before .good)
 
 returns : tie.Need-returns Inv-loop μ-loop
-returns c = root-enters (c .before .before .before .before .before .before .loop .inv) (sym (c .before .before .before .before .before .step .ensures) ∙ c .before .before .before .step3 .given .1) (c .before .root-name .ensures) (c .if1 .taken)
+returns c = root-enters (c .before .before .before .before .before .before .loop .inv) (sym (c .before .before .before .before .before .step .ensures .0) ∙ c .before .before .before .step3 .given .1) (c .before .root-name .ensures) (c .if1 .taken)
 
 returns-2 : tie.Need-returns-2 Inv-loop μ-loop
-returns-2 c = root-stops (c .before .before .before .before .before .before .loop .inv) (sym (c .before .before .before .before .before .step .ensures) ∙ c .before .before .before .step3 .given .1) (c .before .root-name .ensures) (c .if1 .left)
+returns-2 c = root-stops (c .before .before .before .before .before .before .loop .inv) (sym (c .before .before .before .before .before .step .ensures .0) ∙ c .before .before .before .step3 .given .1) (c .before .root-name .ensures) (c .if1 .left)
 
 enum-known-step-3 : tie.Need-enum-known-step-3 Inv-loop μ-loop
 enum-known-step-3 c = search needs
@@ -52,7 +52,7 @@ stopped-requires : tie.Need-stopped-requires Inv-loop μ-loop
 stopped-requires c κs = search needs
 
 returns-3 : tie.Need-returns-3 Inv-loop μ-loop
-returns-3 c = stops-with _ _ _ _ _ _ (c .stopped .ensures) (root-end-node (c .before .before .before .before .before .loop .inv) (sym (c .before .before .before .before .step .ensures) ∙ c .before .before .step4 .given .1))
+returns-3 c = stops-with _ _ _ _ _ _ (c .stopped .ensures) (root-end-node (c .before .before .before .before .before .loop .inv) (sym (c .before .before .before .before .step .ensures .0) ∙ c .before .before .step4 .given .1))
 
 enum-known-step-4 : tie.Need-enum-known-step-4 Inv-loop μ-loop
 enum-known-step-4 c = search needs
@@ -61,7 +61,7 @@ stopped-requires-2 : tie.Need-stopped-requires-2 Inv-loop μ-loop
 stopped-requires-2 c κs = search needs
 
 returns-4 : tie.Need-returns-4 Inv-loop μ-loop
-returns-4 c = stops-with _ _ _ _ _ _ (c .stopped2 .ensures) (root-property (c .before .before .before .before .before .loop .inv) (sym (c .before .before .before .before .step .ensures) ∙ c .before .before .step5 .given .1))
+returns-4 c = stops-with _ _ _ _ _ _ (c .stopped2 .ensures) (root-property (c .before .before .before .before .before .loop .inv) (sym (c .before .before .before .before .step .ensures .0) ∙ c .before .before .step5 .given .1))
 
 enum-known-step-5 : tie.Need-enum-known-step-5 Inv-loop μ-loop
 enum-known-step-5 c = search needs
@@ -70,7 +70,7 @@ stopped-requires-3 : tie.Need-stopped-requires-3 Inv-loop μ-loop
 stopped-requires-3 c κs = search needs
 
 returns-5 : tie.Need-returns-5 Inv-loop μ-loop
-returns-5 c = stops-with _ _ _ _ _ _ (c .stopped3 .ensures) (root-end (c .before .before .before .before .before .loop .inv) (sym (c .before .before .before .before .step .ensures) ∙ c .before .before .step6 .given .1))
+returns-5 c = stops-with _ _ _ _ _ _ (c .stopped3 .ensures) (root-end (c .before .before .before .before .before .loop .inv) (sym (c .before .before .before .before .step .ensures .0) ∙ c .before .before .step6 .given .1))
 
 enum-known-step-6 : tie.Need-enum-known-step-6 Inv-loop μ-loop
 enum-known-step-6 c = search needs
@@ -79,7 +79,7 @@ stopped-requires-4 : tie.Need-stopped-requires-4 Inv-loop μ-loop
 stopped-requires-4 c κs = search needs
 
 returns-6 : tie.Need-returns-6 Inv-loop μ-loop
-returns-6 c = stops-with _ _ _ _ _ _ (c .stopped4 .ensures) (root-fault (c .before .before .before .before .before .loop .inv) (sym (c .before .before .before .before .step .ensures) ∙ c .before .before .step7 .given .1))
+returns-6 c = stops-with _ _ _ _ _ _ (c .stopped4 .ensures) (root-fault (c .before .before .before .before .before .loop .inv) (sym (c .before .before .before .before .step .ensures .0) ∙ c .before .before .step7 .given .1))
 
 pub root-at-spec : {M : Type 1} → statement M
 root-at-spec =
