@@ -24,7 +24,7 @@ abbrev orRefused : ℕ → ℕ → Placed ℕ → Placed ℕ
 orRefused zero t rest = rest
 orRefused (suc n) t rest = refuseAt 0 (faultAt (suc n) t)
 
-pub property-read : (stop : ℕ) (seen : List Text) (t : ℕ) (n : Text) (value : List ℕ) (ts : List Token)
+property-read : (stop : ℕ) (seen : List Text) (t : ℕ) (n : Text) (value : List ℕ) (ts : List Token)
     → readProperties stop seen (property t n value ∷ ts) ≡ orRefused (nameFault n (among n seen)) t (readProperties stop (seen ++ n ∷ []) ts)
 unfolding readProperties firstFault nameFault
 property-read stop seen t n value ts = go (isPropertyName n) (among n seen) refl refl

@@ -253,7 +253,13 @@ fn properties_before(behind: usize) -> PropertiesRead
 // The properties that begin at `first`, of one node, in a block of tokens that ends at `end`, up to the first token that is neither a
 // property nor a NOP. Refusals: 7, 9, at the property's token. At most 63 bytes of a name are read; the properties before it are looked
 // at again only where one of them has the name's mark.
-pub fn read_properties(s: &[u8], end: usize, first: usize, strings: &[u8], b: StringsBlock) -> PropertiesRead
+pub fn read_properties(
+    s: &[u8],
+    end: usize,
+    first: usize,
+    strings: &[u8],
+    b: StringsBlock,
+) -> PropertiesRead
     ensures { λ r.
         ⌜
         propertiesOutcome r

@@ -1,5 +1,6 @@
 pub mod PartLaws
 pub mod Fold
+pub mod Opening
 pub mod Flow
 pub mod Outside
 pub mod Whole
