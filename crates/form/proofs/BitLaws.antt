@@ -1,6 +1,8 @@
 -- The three bit numbers of a feature, as the code tests them. Assumes nothing.
 use mathlib.Core.Path.{_≡_, ap, ap₂, _∙_}
 use mathlib.Core.Bool.{Bool, true, false}
+use Prim.Native.Nat.{ℕ}
+use Rattle.record.specs.Record.{highestHfscrBit, highestFscrBit, highestHwcapBit}
 use Rattle.record.specs.Cells.{cell, lowBit}
 use Rattle.record.specs.declared.Feature.{Feature}
 use Rattle.record.specs.declared.Property.the-variants.{UsablePrivilege, HvSupport, OsSupport, HfscrBitNr, FscrBitNr, HwcapBitNr}
@@ -8,19 +10,19 @@ use Rattle.record.specs.declared.Cell.{Cell}
 use Rattle.form.specs.WellFormed.{bitFits, bitsFit}
 
 -- the bit number in y, required by bit 0 of the cell x, by way of the code's locals
-pub fits-by : {fits : Bool} {a b x y : Cell} → fits ≡ bitFits (lowBit b) a → b ≡ x → a ≡ y → fits ≡ bitFits (lowBit x) y
-fits-by e p q = e ∙ ap₂ bitFits (ap lowBit p) q
+pub fits-by : (highest : ℕ) {fits : Bool} {a b x y : Cell} → fits ≡ bitFits highest (lowBit b) a → b ≡ x → a ≡ y → fits ≡ bitFits highest (lowBit x) y
+fits-by highest e p q = e ∙ ap₂ (bitFits highest) (ap lowBit p) q
 
 module _ (f : Feature) where
   -- the three tests of `bitsFit`
   abbrev pub hypervisorFits : Bool
-  hypervisorFits = bitFits (lowBit (cell f HvSupport)) (cell f HfscrBitNr)
+  hypervisorFits = bitFits highestHfscrBit (lowBit (cell f HvSupport)) (cell f HfscrBitNr)
 
   abbrev pub systemFits : Bool
-  systemFits = bitFits (lowBit (cell f OsSupport)) (cell f FscrBitNr)
+  systemFits = bitFits highestFscrBit (lowBit (cell f OsSupport)) (cell f FscrBitNr)
 
   abbrev pub userFits : Bool
-  userFits = bitFits (lowBit (cell f UsablePrivilege)) (cell f HwcapBitNr)
+  userFits = bitFits highestHwcapBit (lowBit (cell f UsablePrivilege)) (cell f HwcapBitNr)
 
   pub bits-first : hypervisorFits ≡ false → false ≡ bitsFit f
   unfolding bitsFit

@@ -7,7 +7,7 @@ use borrow.Author.Tests.{leb-true, ltb-true, le-leb, lt-ltb}
 use lib.Dec.{leb, ltb}
 use Rattle.positions.specs.Below.{every}
 use Rattle.positions.proofs.BelowLaws.{and-left, and-right, no-way, every-at, every-of}
-use Rattle.record.specs.Record.{mostFeatures, mostDependencies, highestBit, noFeatures, featureAt, slotAt}
+use Rattle.record.specs.Record.{mostFeatures, mostDependencies, noFeatures, featureAt, slotAt}
 use Rattle.record.specs.Cells.{dependencyCount}
 use Rattle.form.specs.WellFormed.{bitFits, bitsFit, dependenciesFit, featureFits, wellFormed}
 use Rattle.form.specs.Formed.{BitFormed, FeatureFormed, Formed}
@@ -17,15 +17,15 @@ use Rattle.record.specs.declared.Record.{Record}
 use Rattle.record.specs.declared.Cell.{Cell}
 use Rattle.record.specs.declared.Cell.the-variants.{Absent, Given}
 
-bit-formed : (required : Bool) (c : Cell) → bitFits required c ≡ true → BitFormed required c
-bit-formed true Absent e = no-way false e refl
-bit-formed false Absent e = record { low = λ n h. let z : _≡_ {A = ℕ} 0 1 = cc in absurd (omega arith); present = λ h. no-way false h refl }
-bit-formed required (Given m) e = record { low = λ n h. let same : m ≡ n = cc in omega (arith, leb-true m highestBit e); present = λ h. (m, refl) }
+bit-formed : (highest : ℕ) (required : Bool) (c : Cell) → bitFits highest required c ≡ true → BitFormed highest required c
+bit-formed highest true Absent e = no-way false e refl
+bit-formed highest false Absent e = record { low = λ n h. let z : _≡_ {A = ℕ} 0 1 = cc in absurd (omega arith); present = λ h. no-way false h refl }
+bit-formed highest required (Given m) e = record { low = λ n h. let same : m ≡ n = cc in omega (arith, leb-true m highest e); present = λ h. (m, refl) }
 
-bit-passes : (required : Bool) (c : Cell) → BitFormed required c → bitFits required c ≡ true
-bit-passes true Absent b = let given = b .present refl in let z : _≡_ {A = ℕ} 0 1 = cc (given .1) in absurd (omega arith)
-bit-passes false Absent b = refl
-bit-passes required (Given n) b = le-leb n highestBit (b .low n refl)
+bit-passes : (highest : ℕ) (required : Bool) (c : Cell) → BitFormed highest required c → bitFits highest required c ≡ true
+bit-passes highest true Absent b = let given = b .present refl in let z : _≡_ {A = ℕ} 0 1 = cc (given .1) in absurd (omega arith)
+bit-passes highest false Absent b = refl
+bit-passes highest required (Given n) b = le-leb n highest (b .low n refl)
 
 module _ (r : Record) (i : ℕ) where
   abbrev feature : Feature
@@ -44,9 +44,9 @@ module _ (r : Record) (i : ℕ) where
       let two = and-left (hypervisorFits feature && systemFits feature) (userFits feature) bits in
       let slots = and-right (bitsFit feature) (dependenciesFit r i) e in
       record {
-        hfscr = bit-formed _ _ (and-left (hypervisorFits feature) (systemFits feature) two);
-        fscr = bit-formed _ _ (and-right (hypervisorFits feature) (systemFits feature) two);
-        hwcap = bit-formed _ _ (and-right (hypervisorFits feature && systemFits feature) (userFits feature) bits);
+        hfscr = bit-formed _ _ _ (and-left (hypervisorFits feature) (systemFits feature) two);
+        fscr = bit-formed _ _ _ (and-right (hypervisorFits feature) (systemFits feature) two);
+        hwcap = bit-formed _ _ _ (and-right (hypervisorFits feature && systemFits feature) (userFits feature) bits);
         few = leb-true number mostDependencies (and-left (leb number mostDependencies) (every number below) slots);
         below = λ j h. ltb-true (slotAt r i j) (r .count) (every-at number below (and-right (leb number mostDependencies) (every number below) slots) j h);
       }
@@ -55,9 +55,9 @@ module _ (r : Record) (i : ℕ) where
   unfolding bitsFit dependenciesFit
   feature-passes f =
       rw (
-        bit-passes _ _ (f .hfscr),
-        bit-passes _ _ (f .fscr),
-        bit-passes _ _ (f .hwcap),
+        bit-passes _ _ _ (f .hfscr),
+        bit-passes _ _ _ (f .fscr),
+        bit-passes _ _ _ (f .hwcap),
         le-leb number mostDependencies (f .few),
         every-of number below (λ j h. lt-ltb (slotAt r i j) (r .count) (f .below j h)),
       )

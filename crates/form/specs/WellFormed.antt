@@ -8,20 +8,20 @@ use Rattle.record.specs.declared.Record.{Record}
 use Rattle.record.specs.declared.Property.the-variants.{UsablePrivilege, HvSupport, OsSupport, HfscrBitNr, FscrBitNr, HwcapBitNr}
 use Rattle.record.specs.declared.Cell.{Cell}
 use Rattle.record.specs.declared.Cell.the-variants.{Absent, Given}
-use Rattle.record.specs.Record.{mostFeatures, mostDependencies, highestBit, featureAt, slotAt}
+use Rattle.record.specs.Record.{mostFeatures, mostDependencies, highestHfscrBit, highestFscrBit, highestHwcapBit, featureAt, slotAt}
 use Rattle.record.specs.Cells.{cell, lowBit, dependencyCount}
 
 -- a bit number is in range where given, and given where required: not "a given bit number above 63", nor "one missing where required"
-abbrev pub bitFits : Bool → Cell → Bool
-bitFits required Absent = not required
-bitFits required (Given n) = leb n highestBit
+abbrev pub bitFits : ℕ → Bool → Cell → Bool
+bitFits highest required Absent = not required
+bitFits highest required (Given n) = leb n highest
 
 -- "required where that bit 0 is set": of hv-support, of os-support, of usable-privilege
 unfoldable pub bitsFit : Feature → Bool
 bitsFit f =
-    bitFits (lowBit (cell f HvSupport)) (cell f HfscrBitNr)
-    && bitFits (lowBit (cell f OsSupport)) (cell f FscrBitNr)
-    && bitFits (lowBit (cell f UsablePrivilege)) (cell f HwcapBitNr)
+    bitFits highestHfscrBit (lowBit (cell f HvSupport)) (cell f HfscrBitNr)
+    && bitFits highestFscrBit (lowBit (cell f OsSupport)) (cell f FscrBitNr)
+    && bitFits highestHwcapBit (lowBit (cell f UsablePrivilege)) (cell f HwcapBitNr)
 
 -- not "more than 16 dependencies, or one not below the count"
 unfoldable pub dependenciesFit : Record → ℕ → Bool

@@ -1,7 +1,9 @@
 // The form of a feature record: document 01's number 14 is for those that are not well formed.
 use record::Cell;
 use record::Feature;
-use record::HIGHEST_BIT;
+use record::HIGHEST_FSCR_BIT;
+use record::HIGHEST_HFSCR_BIT;
+use record::HIGHEST_HWCAP_BIT;
 use record::MOST_DEPENDENCIES;
 use record::MOST_FEATURES;
 use record::Property;
@@ -22,12 +24,12 @@ ghost use Rattle.form.specs.Slots.{slotBelow, slotsFit, SlotsUpTo, fitsA
 const FEW: usize = 4;
 
 // Whether a bit number is in range where given, and given where bit 0 of its support is set.
-fn bit_fits(number: Cell, support: Cell) -> bool
-    ensures { λ r. ⌜ r ≡ bitFits (lowBit support) number ⌝ }
+fn bit_fits(number: Cell, support: Cell, highest: u32) -> bool
+    ensures { λ r. ⌜ r ≡ bitFits highest (lowBit support) number ⌝ }
 {
     match number {
         Cell::Absent => !low_bit(support),
-        Cell::Given(n) => n <= HIGHEST_BIT,
+        Cell::Given(n) => n <= highest,
     }
 }
 
@@ -38,18 +40,21 @@ fn bits_fit(f: Feature) -> bool
     if !bit_fits(
         cell_of(f, Property::HfscrBitNr),
         cell_of(f, Property::HvSupport),
+        HIGHEST_HFSCR_BIT,
     ) {
         return false;
     }
     if !bit_fits(
         cell_of(f, Property::FscrBitNr),
         cell_of(f, Property::OsSupport),
+        HIGHEST_FSCR_BIT,
     ) {
         return false;
     }
     bit_fits(
         cell_of(f, Property::HwcapBitNr),
         cell_of(f, Property::UsablePrivilege),
+        HIGHEST_HWCAP_BIT,
     )
 }
 

@@ -14,7 +14,7 @@ use Rattle.positions.proofs.SetLaws.{collect-more}
 use Rattle.positions.proofs.MemberLaws.{insert-collect}
 use Rattle.positions.proofs.SetCodeLaws.{zero-words}
 use Rattle.record.specs.Cells.{bitOf, held, whenGiven, cell, lowBit}
-use Rattle.record.specs.Record.{mostFeatures, highestBit}
+use Rattle.record.specs.Record.{mostFeatures, highestHfscrBit, highestFscrBit, highestHwcapBit}
 use Rattle.form.specs.WellFormed.{bitFits, bitsFit}
 use Rattle.record.specs.declared.Record.{Record}
 use Rattle.record.specs.declared.Feature.{Feature}
@@ -45,22 +45,22 @@ module _ (support : Cell) (s number mask : ℕ) (own : Bool) (given : support �
 pub low-bit : {support : Cell} {s : ℕ} → support ≡ Given s → bit s 0 ≡ true → lowBit support ≡ true
 low-bit e q = rw (e, q)
 
--- a number that fits is below 64 where it is required, and its being given makes no difference
-number-fits : (required given : Bool) (n : ℕ) → bitFits required (whenGiven given n) ≡ true → required ≡ true → n < 64
-number-fits required true n e q = let h = leb-true n highestBit e in omega arith
-number-fits true false n e q = no-way false e refl
-number-fits false false n e q = no-way false q refl
+-- a number that fits is in range where it is required, and its being given makes no difference
+number-fits : (highest : ℕ) (required given : Bool) (n : ℕ) → bitFits highest required (whenGiven given n) ≡ true → required ≡ true → n ≤ highest
+number-fits highest required true n e q = leb-true n highest e
+number-fits highest true false n e q = no-way false e refl
+number-fits highest false false n e q = no-way false q refl
 
-register-same : (s : ℕ) (given : Bool) (n mask : ℕ) → bitFits (bit s 0) (whenGiven given n) ≡ true
+register-same : (highest s : ℕ) (given : Bool) (n mask : ℕ) → bitFits highest (bit s 0) (whenGiven given n) ≡ true
     → byRegister s (Given n) mask ≡ byRegister s (whenGiven given n) mask
 unfolding byRegister
-register-same s true n mask e = refl
-register-same s false n mask e = rw (not-true (bit s 0) e)
+register-same highest s true n mask e = refl
+register-same highest s false n mask e = rw (not-true (bit s 0) e)
 
-supported-same : (support : Cell) (given : Bool) (n mask : ℕ) (own : Bool) → bitFits (lowBit support) (whenGiven given n) ≡ true
+supported-same : (highest : ℕ) (support : Cell) (given : Bool) (n mask : ℕ) (own : Bool) → bitFits highest (lowBit support) (whenGiven given n) ≡ true
     → isSupported support (Given n) mask own ≡ isSupported support (whenGiven given n) mask own
-supported-same Absent given n mask own e = refl
-supported-same (Given s) given n mask own e = ap (λ (b : Bool). b || own) (register-same s given n mask e)
+supported-same highest Absent given n mask own e = refl
+supported-same highest (Given s) given n mask own e = ap (λ (b : Bool). b || own) (register-same highest s given n mask e)
 
 -- support is asked below the level that gives it
 module _ (upper level : ℕ) (support number : Cell) (mask : ℕ) (own : Bool) where
@@ -79,13 +79,13 @@ usable-by level e p = e ∙ ap (λ (y : Cell). isUsable y level) p
 -- the two registers' numbers of a feature whose bit numbers fit
 module _ (f : Feature) (fits : bitsFit f ≡ true) where
   abbrev hv : Bool
-  hv = bitFits (lowBit (cell f HvSupport)) (cell f HfscrBitNr)
+  hv = bitFits highestHfscrBit (lowBit (cell f HvSupport)) (cell f HfscrBitNr)
 
   abbrev os : Bool
-  os = bitFits (lowBit (cell f OsSupport)) (cell f FscrBitNr)
+  os = bitFits highestFscrBit (lowBit (cell f OsSupport)) (cell f FscrBitNr)
 
   abbrev hwcap : Bool
-  hwcap = bitFits (lowBit (cell f UsablePrivilege)) (cell f HwcapBitNr)
+  hwcap = bitFits highestHwcapBit (lowBit (cell f UsablePrivilege)) (cell f HwcapBitNr)
 
   hv-fits : hv ≡ true
   unfolding bitsFit
@@ -97,11 +97,11 @@ module _ (f : Feature) (fits : bitsFit f ≡ true) where
 
   pub hv-number : {a : Cell} → a ≡ cell f HvSupport → lowBit a ≡ true → f .«hfscr_bit_nr» < 64
   unfolding cell held bitOf
-  hv-number e q = number-fits _ (bit (f .given) 4) _ hv-fits (ap lowBit (sym e) ∙ q)
+  hv-number e q = let h = number-fits highestHfscrBit _ (bit (f .given) 4) (f .«hfscr_bit_nr») hv-fits (ap lowBit (sym e) ∙ q) in omega arith
 
   pub os-number : {a : Cell} → a ≡ cell f OsSupport → lowBit a ≡ true → f .«fscr_bit_nr» < 64
   unfolding cell held bitOf
-  os-number e q = number-fits _ (bit (f .given) 5) _ os-fits (ap lowBit (sym e) ∙ q)
+  os-number e q = let h = number-fits highestFscrBit _ (bit (f .given) 5) (f .«fscr_bit_nr») os-fits (ap lowBit (sym e) ∙ q) in omega arith
 
   module _ (upper level mask : ℕ) (own : Bool) {u : Bool} {a : Cell} where
     pub hv-supported : u ≡ isSupportedBelow upper level a (Given (f .«hfscr_bit_nr»)) mask own → a ≡ cell f HvSupport
@@ -110,7 +110,7 @@ module _ (f : Feature) (fits : bitsFit f ≡ true) where
     hv-supported q e =
         q
         ∙ ap (λ (x : Cell). leb upper level || isSupported x (Given (f .«hfscr_bit_nr»)) mask own) e
-        ∙ ap (λ (b : Bool). leb upper level || b) (supported-same (cell f HvSupport) (bit (f .given) 4) (f .«hfscr_bit_nr») mask own hv-fits)
+        ∙ ap (λ (b : Bool). leb upper level || b) (supported-same highestHfscrBit (cell f HvSupport) (bit (f .given) 4) (f .«hfscr_bit_nr») mask own hv-fits)
 
     pub os-supported : u ≡ isSupportedBelow upper level a (Given (f .«fscr_bit_nr»)) mask own → a ≡ cell f OsSupport
         → u ≡ isSupportedBelow upper level (cell f OsSupport) (cell f FscrBitNr) mask own
@@ -118,7 +118,7 @@ module _ (f : Feature) (fits : bitsFit f ≡ true) where
     os-supported q e =
         q
         ∙ ap (λ (x : Cell). leb upper level || isSupported x (Given (f .«fscr_bit_nr»)) mask own) e
-        ∙ ap (λ (b : Bool). leb upper level || b) (supported-same (cell f OsSupport) (bit (f .given) 5) (f .«fscr_bit_nr») mask own os-fits)
+        ∙ ap (λ (b : Bool). leb upper level || b) (supported-same highestFscrBit (cell f OsSupport) (bit (f .given) 5) (f .«fscr_bit_nr») mask own os-fits)
 
 -- the first test that fails decides; the last one where the others hold
 module _ (f : Feature) (level : ℕ) (g : Grants) (i : ℕ) where

@@ -14,7 +14,8 @@ ghost use Rattle.positions.specs.Sets.{
   memberCount,
 };
 
-const WORD_BITS: u32 = 64;
+// The bits of a word.
+pub const WORD_BITS: u32 = 64;
 
 pub const WORDS: usize = 1;
 

@@ -14,11 +14,18 @@ mostDependencies = 16
 
 -- "1,024 dependency slots, 16 a feature"
 abbrev pub slotCount : ℕ
-slotCount = 1024
+slotCount = mostFeatures * mostDependencies
 
--- bit numbers are "0 to 63"
-abbrev pub highestBit : ℕ
-highestBit = 63
+-- `hfscr-bit-nr`, `fscr-bit-nr`: "0 to 63"
+abbrev pub highestHfscrBit : ℕ
+highestHfscrBit = 63
+
+abbrev pub highestFscrBit : ℕ
+highestFscrBit = 63
+
+-- `hwcap-bit-nr`: "0 to 63"
+abbrev pub highestHwcapBit : ℕ
+highestHwcapBit = 63
 
 abbrev pub noFeature : Feature
 noFeature = record {

@@ -8,9 +8,14 @@ pub const MOST_FEATURES: usize = 64;
 pub const MOST_DEPENDENCIES: usize = 16;
 
 // Document 01: "one flat run of 1,024 dependency slots", sixteen to a feature.
-pub const SLOTS: usize = 1024;
+pub const SLOTS: usize = MOST_FEATURES * MOST_DEPENDENCIES;
 
-pub const HIGHEST_BIT: u32 = 63;
+// The highest bit numbers of a feature: in HFSCR, in FSCR, and among the capability bits.
+pub const HIGHEST_HFSCR_BIT: u32 = 63;
+
+pub const HIGHEST_FSCR_BIT: u32 = 63;
+
+pub const HIGHEST_HWCAP_BIT: u32 = 63;
 
 // A feature: its begin token's offset, which properties were given, the cells of its properties, zero where absent, and how many
 // dependencies it has.

@@ -14,7 +14,7 @@ pub const LARGEST_EXPONENT: u32 = 63;
 #[repr(C)]
 pub struct SizeTable {
     pub count: u32,
-    pub exponents: [u32; 16],
+    pub exponents: [u32; MOST_SIZES],
 }
 
 pub struct Sizes {
@@ -27,7 +27,7 @@ fn refused(refusal: Refusal) -> Sizes
 {
     let table = SizeTable {
         count: 0,
-        exponents: [0; 16],
+        exponents: [0; MOST_SIZES],
     };
     Sizes { refusal, table }
 }
@@ -45,7 +45,7 @@ fn ascending_sizes(value: &[u8]) -> Sizes
     if MOST_SIZES < count {
         return refused(Refusal::TooMany);
     }
-    let mut exponents: [u32; 16] = [0; 16];
+    let mut exponents: [u32; MOST_SIZES] = [0; MOST_SIZES];
     let mut least: u32 = 0;
     let mut i = 0;
     while i < count {

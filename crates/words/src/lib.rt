@@ -2,9 +2,9 @@
 use permitted::Grants;
 use permitted::HYPERVISOR;
 use permitted::SYSTEM;
+use positions::WORD_BITS;
 use record::Cell;
 use record::Feature;
-use record::HIGHEST_BIT;
 use record::Property;
 use record::Record;
 use refusal::Refusal;
@@ -48,7 +48,7 @@ fn bit_where(on: bool, c: Cell) -> u64
     match c {
         Cell::Absent => 0,
         Cell::Given(n) => {
-            if HIGHEST_BIT < n {
+            if WORD_BITS <= n {
                 return 0;
             }
             1u64 << n

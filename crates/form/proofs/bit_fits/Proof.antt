@@ -18,7 +18,7 @@ returns : tie.Need-returns
 returns c = search needs
 
 returns-2 : tie.Need-returns-2
-returns-2 c = ap (bitFits _) (sym (c .before .number .given .1))
+returns-2 c = ap (bitFits _ _) (sym (c .before .number .given .1))
 
 pub bit-fits-spec : {M : Type 1} → statement M
 bit-fits-spec = tie.close (tie.spec enum-told low-bit-requires enum-known-number returns returns-2)

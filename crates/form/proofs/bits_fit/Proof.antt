@@ -16,7 +16,7 @@ bit-fits-requires : tie.Need-bit-fits-requires
 bit-fits-requires c κs = search needs
 
 returns : tie.Need-returns
-returns c = bits-first _ (sym (fits-by (c .before .bit-fits .ensures) (c .before .before .cell-of2 .ensures) (c .before .before .before .cell-of .ensures)) ∙ not-true _ (c .if1 .taken))
+returns c = bits-first _ (sym (fits-by _ (c .before .bit-fits .ensures) (c .before .before .cell-of2 .ensures) (c .before .before .before .cell-of .ensures)) ∙ not-true _ (c .if1 .taken))
 
 cell-of-requires-3 : tie.Need-cell-of-requires-3
 cell-of-requires-3 c κs = search needs
@@ -30,8 +30,8 @@ bit-fits-requires-2 c κs = search needs
 returns-2 : tie.Need-returns-2
 returns-2 c =
     let a = c .before .before .before .before in
-    let first = fits-by (a .before .bit-fits .ensures) (a .before .before .cell-of2 .ensures) (a .before .before .before .cell-of .ensures) in
-    let second = fits-by (c .before .bit-fits2 .ensures) (c .before .before .cell-of4 .ensures) (c .before .before .before .cell-of3 .ensures) in
+    let first = fits-by _ (a .before .bit-fits .ensures) (a .before .before .cell-of2 .ensures) (a .before .before .before .cell-of .ensures) in
+    let second = fits-by _ (c .before .bit-fits2 .ensures) (c .before .before .cell-of4 .ensures) (c .before .before .before .cell-of3 .ensures) in
     bits-second _ (sym first ∙ not-false _ (a .if1 .left)) (sym second ∙ not-true _ (c .if2 .taken))
 
 cell-of-requires-5 : tie.Need-cell-of-requires-5
@@ -47,9 +47,9 @@ returns-3 : tie.Need-returns-3
 returns-3 c =
     let b = c .before .before .before in
     let a = b .before .before .before .before in
-    let first = fits-by (a .before .bit-fits .ensures) (a .before .before .cell-of2 .ensures) (a .before .before .before .cell-of .ensures) in
-    let second = fits-by (b .before .bit-fits2 .ensures) (b .before .before .cell-of4 .ensures) (b .before .before .before .cell-of3 .ensures) in
-    fits-by (c .bit-fits3 .ensures) (c .before .cell-of6 .ensures) (c .before .before .cell-of5 .ensures)
+    let first = fits-by _ (a .before .bit-fits .ensures) (a .before .before .cell-of2 .ensures) (a .before .before .before .cell-of .ensures) in
+    let second = fits-by _ (b .before .bit-fits2 .ensures) (b .before .before .cell-of4 .ensures) (b .before .before .before .cell-of3 .ensures) in
+    fits-by _ (c .bit-fits3 .ensures) (c .before .cell-of6 .ensures) (c .before .before .cell-of5 .ensures)
     ∙ bits-third _ (sym first ∙ not-false _ (a .if1 .left)) (sym second ∙ not-false _ (b .if2 .left))
 
 pub bits-fit-spec : {M : Type 1} → statement M
