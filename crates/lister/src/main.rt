@@ -1,12 +1,10 @@
 // Lists the CPU features of a device tree: reads the tree from standard input and prints its list, line by line. A tree that is refused is
 // a list too, of one line.
+use header::LARGEST_TREE;
 use libc::STDERR_FILENO;
 use libc::STDIN_FILENO;
 use libc::STDOUT_FILENO;
 use listing::LONGEST_LINE;
-
-// The most bytes of a tree. What follows them in the input changes no line, so that it is not read.
-const MOST_BYTES: usize = 65536;
 
 // Whether nothing is left to read, and no read fails.
 fn at_end() -> bool {
@@ -38,9 +36,10 @@ fn print_list(tree: &[u8]) {
 }
 
 fn main() {
-    let mut tree: [u8; MOST_BYTES] = [0; MOST_BYTES];
+    // What follows the most bytes of a tree in the input changes no line, so that it is not read.
+    let mut tree: [u8; LARGEST_TREE] = [0; LARGEST_TREE];
     let length = io::read_full(STDIN_FILENO, &mut tree);
-    if length < MOST_BYTES && !at_end() {
+    if length < LARGEST_TREE && !at_end() {
         io::write_all(STDERR_FILENO, b"lister: the tree cannot be read\n");
         return;
     }

@@ -1,5 +1,5 @@
 -- The lister's text (document 01, "Both sides"): the lines of a tree, and one of them in a lent buffer.
-use Prim.Native.Nat.{ℕ, zero, suc, _^_, _-_}
+use Prim.Native.Nat.{ℕ, zero, suc, _+_, _*_, _^_, _-_}
 use Prim.Native.String.{String}
 use mathlib.Core.Bool.{true, false}
 use mathlib.Core.List.{List, [], _∷_, _++_, map}
@@ -11,8 +11,10 @@ use Rattle.refusal.specs.Checks.{Check, check, firstFault}
 use Rattle.cells.specs.Buffer.{written}
 use Rattle.cells.specs.Rows.{each}
 use Rattle.strings.specs.Strings.{Text, ended, unended}
+use Rattle.names.specs.Names.{mostNodeName}
 use Rattle.positions.specs.Sets.{setOf, noMembers, memberCount}
 use Rattle.record.specs.declared.Record.{Record}
+use Rattle.record.specs.Record.{mostFeatures}
 use Rattle.nodes.specs.Nodes.{nodeAt}
 use Rattle.reading.specs.Reading.{readRecord}
 use Rattle.reading.specs.Accepted.{featuresOf}
@@ -117,9 +119,9 @@ listing tree = elim (readRecord tree .number) [
 unfoldable pub lineAt : List ℕ → ℕ → List ℕ
 lineAt tree k = getD (listing tree) k []
 
--- two digits, a space, 63 characters, ` off `, 64 names of 63 characters with 63 `>` between them, and the line's end
+-- two digits, a space, a name, ` off `, and as many names as there may be features, each with the `>` or the line's end behind it
 abbrev pub longestLine : ℕ
-longestLine = 4167
+longestLine = 2 + 1 + mostNodeName + 5 + mostFeatures * (mostNodeName + 1)
 
 -- a line past the last is 16; "the lent buffer is shorter than what is to be written": 18
 unfoldable pub lineChecks : List ℕ → ℕ → ℕ → List (Check ℕ)

@@ -1,4 +1,5 @@
 // The lister's text: the lines of a tree, one at a time.
+use names::MOST_NODE_NAME;
 use permitted::Grants;
 use permitted::USER;
 use record::MOST_FEATURES;
@@ -26,8 +27,9 @@ ghost use Rattle.listing.specs.Listing.{
 };
 ghost use Rattle.listing.specs.Parts.{Put, stringAt, nameIn, othersIn, namesIn, Positions, IsRead, Composed};
 
-// The most bytes that a line has.
-pub const LONGEST_LINE: usize = 4167;
+// The most bytes that a line has: two digits, a space, a name, ` off `, and as many names as there may be features, each with the `>` or
+// the line's end behind it.
+pub const LONGEST_LINE: usize = 2 + 1 + MOST_NODE_NAME + 5 + MOST_FEATURES * (MOST_NODE_NAME + 1);
 
 const ALL_BITS: u64 = 0xffffffffffffffff;
 
