@@ -1,5 +1,6 @@
 // The cells of a feature's properties as read: which refusal comes first, the feature with its word `given`, and which feature carries a
 // phandle.
+use positions::Position;
 use record::Feature;
 use record::MOST_FEATURES;
 use refusal::Refusal;
@@ -9,10 +10,7 @@ ghost use Rattle.refusal.specs.Refusal.{numberOf};
 ghost use Rattle.positions.specs.Below.{oneIf, firstThat};
 ghost use Rattle.record.specs.Record.{mostFeatures, noFeature};
 ghost use Rattle.feature.specs.Feature.{firstOf, refusalOf, givenBits, featureFrom};
-ghost use Rattle.feature.specs.Phandles.{noted, notedAt};
-
-// Above every cell.
-const NO_PHANDLE: u64 = 0x100000000;
+ghost use Rattle.feature.specs.Phandles.{isAt};
 
 // A property of one cell: its refusal; where there is none, whether it is given, and its number, zero where it is not.
 pub struct CellRead {
@@ -130,28 +128,17 @@ pub fn no_feature() -> Feature
     }
 }
 
-// What is noted of a feature's phandle: the phandle, or a number that no cell holds where there is none.
-pub fn phandle_noted(c: CellRead) -> u64
-    ensures { λ r. ⌜ r ≡ noted (c .given) (c .number) ⌝ }
-{
-    if c.given {
-        return c.number as u64;
-    }
-    NO_PHANDLE
-}
-
-// The first of the features below `n` that carries a phandle; `n` where none does. No more than 64 are looked at.
-pub fn carrier_below(phandles: &[u64; MOST_FEATURES], n: usize, phandle: u32) -> usize
-    ensures { λ r. ⌜ r ≡ firstThat (min n mostFeatures) (notedAt (now (phandles .entry)) phandle) ⌝ }
+// The first position below `n` at which a phandle stands, or nowhere. No more than 64 are looked at.
+pub fn carrier_below(phandles: &[u64; MOST_FEATURES], n: usize, phandle: u32) -> Position
+    ensures { λ r. ⌜ r ≡ firstThat (min n mostFeatures) (isAt (now (phandles .entry)) phandle) ⌝ }
 {
     let end = cells::least(n, MOST_FEATURES);
-    let nowhere = end;
     let mut i: usize = 0;
     while i < end {
         if phandles[i] == phandle as u64 {
-            return i;
+            return Position::At(i);
         }
         i += 1;
     }
-    nowhere
+    Position::Nowhere
 }
