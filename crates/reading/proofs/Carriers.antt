@@ -2,20 +2,21 @@
 use mathlib.Core.Path.{_≡_, refl, sym, ap, subst, _∙_}
 use mathlib.Core.Bool.{Bool, true, false, false≢true}
 use mathlib.Core.List.{List, [], _∷_, _++_}
-use Prim.Native.Nat.{ℕ, zero, suc, _+_, _<_}
+use Prim.Native.Nat.{ℕ, zero, suc, _<_}
 use native.Mathlib.Omega.{arith}
 use lib.ListN.{length, getD, take, drop}
 use lib.Seq.{split-at, getD-take, length-take-le}
 use borrow.Author.Tests.{eqb-true, eq-eqb}
 use Rattle.strings.specs.Strings.{unended}
 use Rattle.names.specs.Names.{either}
-use Rattle.tokens.specs.Steps.{pick}
+use Rattle.positions.specs.declared.Position.the-variants.{At}
+use Rattle.positions.proofs.FirstLaws.{IsFirst, first-that}
 use Rattle.record.specs.declared.Property.the-variants.{Phandle}
 use Rattle.record.specs.declared.Cell.the-variants.{Given}
 use Rattle.nodes.specs.Nodes.{Node, node, nodeAt}
 use Rattle.nodes.specs.Values.{Value, missing, value, valueOf, number}
 use Rattle.reading.specs.Features.{some, isCarried, carries, isRepeated}
-use Rattle.reading.specs.Dependencies.{position, carrierFrom, isSomewhere}
+use Rattle.reading.specs.Dependencies.{carriesAt, carrier}
 use Rattle.reading.specs.Resolved.{cellOf, cellIn}
 
 -- the node at an index
@@ -52,37 +53,9 @@ unfolding cellIn
 phandle-carries p n h = cell-carried p (valueOf n "phandle") h
 
 -- the carrier among features
-pub record Found (p i : ℕ) (ns : List Node) : Type 0 where
-  pub index : ℕ
-  pub at : carrierFrom p i ns ≡ position (i + index)
-  pub below : index < length ns
-  pub carried : carries p (nodeAt ns index) ≡ true
-
-pub carrier-found : (p i : ℕ) (ns : List Node) → isSomewhere (carrierFrom p i ns) ≡ true → Found p i ns
-unfolding carrierFrom nodeAt
-carrier-found p i [] h = absurd (false≢true h)
-carrier-found p i (n ∷ ns) h = go (carries p n) refl h (carrier-found p (suc i) ns)
-  where
-    later : carries p n ≡ false → Found p (suc i) ns → Found p i (n ∷ ns)
-    later e f =
-        let k : suc i + f .index ≡ i + suc (f .index) = omega arith in
-        record {
-          index = suc (f .index);
-          at = ap (λ (b : Bool). pick b (position i) (carrierFrom p (suc i) ns)) e ∙ f .at ∙ ap position k;
-          below = omega (arith, f .below);
-          carried = f .carried;
-        }
-
-    go : (b : Bool) → carries p n ≡ b → isSomewhere (pick b (position i) (carrierFrom p (suc i) ns)) ≡ true → (isSomewhere (carrierFrom p (suc i) ns) ≡ true → Found p (suc i) ns) → Found p i (n ∷ ns)
-    go true e k f =
-        let z : i ≡ i + 0 = omega arith in
-        record {
-          index = 0;
-          at = ap (λ (b : Bool). pick b (position i) (carrierFrom p (suc i) ns)) e ∙ ap position z;
-          below = omega arith;
-          carried = e;
-        }
-    go false e k f = later e (f k)
+pub carrier-carries : (features : List Node) (p : ℕ) {k : ℕ} → carrier features p ≡ At k → (k < length features) × (carries p (nodeAt features k) ≡ true)
+carrier-carries features p e =
+    let f = subst (IsFirst (length features) (carriesAt features p)) e (first-that (length features) (carriesAt features p)) in (f .0, f .1)
 
 -- one of some nodes: none of them where it is false
 pub some-none : (q : Node → Bool) (ns : List Node) (k : ℕ) → k < length ns → some q ns ≡ false → q (nodeAt ns k) ≡ false

@@ -14,13 +14,14 @@ use Rattle.walk.specs.Checked.{layoutOf, checkTree}
 use Rattle.walk.specs.Walk.{step, walk}
 use Rattle.walk.specs.Containers.{containerOffsets, firstTwo}
 use Rattle.positions.specs.Bits.{bit}
+use Rattle.positions.specs.Below.{firstThat}
 use Rattle.reading.specs.Features.{inOrder, some, featureChecks, givenWord, featureOf}
-use Rattle.reading.specs.Reading.{readChecks, recordOf, readRecord}
+use Rattle.reading.specs.Reading.{readChecks, recordWith, recordOf, readRecord}
 use Rattle.reading.specs.Example.{exampleTree, exampleRecord}
-use Rattle.reading.specs.Dependencies.{carrierFrom, cellChecks, carrierChecks, slotsOf}
+use Rattle.reading.specs.Dependencies.{cellChecks, carrierChecks, positionsOf, slotsOf}
 use Rattle.nodes.specs.Values.{valueIn}
 use Rattle.nodes.specs.Nodes.{nodeAt, nodesNamed, childrenAt}
 
 pub example-read : readRecord exampleTree ≡ placed exampleRecord
-unfolding firstFault isNodeCharacter isPropertyCharacter cellAt textOf textAt sameBytes isString every atSigns firstIsPlain lastIsPlain nodeCharacters isNodeName isPropertyName isRootName sameText blockChecks headerChecks blocksOf header tokensFrom tokens padded propertyAt stepAt nameAt among layoutOf checkTree step walk containerOffsets firstTwo bit inOrder some featureChecks givenWord featureOf nodeAt readChecks recordOf readRecord exampleTree exampleRecord carrierFrom cellChecks carrierChecks slotsOf valueIn nodesNamed childrenAt
+unfolding firstFault isNodeCharacter isPropertyCharacter cellAt textOf textAt sameBytes isString every atSigns firstIsPlain lastIsPlain nodeCharacters isNodeName isPropertyName isRootName sameText blockChecks headerChecks blocksOf header tokensFrom tokens padded propertyAt stepAt nameAt among layoutOf checkTree step walk containerOffsets firstTwo bit firstThat inOrder some featureChecks givenWord featureOf nodeAt readChecks recordWith recordOf readRecord exampleTree exampleRecord cellChecks carrierChecks positionsOf slotsOf valueIn nodesNamed childrenAt
 example-read = refl

@@ -9,11 +9,12 @@ pub mod Ends
 pub mod Accepts
 pub mod Cells
 pub mod Carriers
+pub mod CheckLaws
+pub mod Resolutions
+pub mod SlotRowLaws
 pub mod Slots
 pub mod Dependencies
 pub mod Formed
 pub mod Example
-pub mod CheckLaws
-pub mod SlotRowLaws
 pub mod OrderLaws
 pub mod WalkedLaws

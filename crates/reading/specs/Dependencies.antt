@@ -1,32 +1,29 @@
 -- Dependencies: from phandles to positions (document 01, "The feature record").
-use Prim.Native.Nat.{ℕ, suc}
+use Prim.Native.Nat.{ℕ}
 use mathlib.Core.Bool.{Bool, true, false}
-use mathlib.Core.List.{List, [], _∷_, _++_, map}
+use mathlib.Core.List.{List, [], _∷_, _++_}
+use lib.ListN.{length}
 use Rattle.refusal.specs.Refusal.{Fault, fault}
 use Rattle.refusal.specs.Checks.{Check, check}
 use Rattle.cells.specs.Rows.{padded}
+use Rattle.positions.specs.declared.Position.{Position}
+use Rattle.positions.specs.declared.Position.the-variants.{Nowhere, At}
+use Rattle.positions.specs.Below.{firstThat}
 use Rattle.record.specs.Record.{mostDependencies}
-use Rattle.tokens.specs.Steps.{pick}
-use Rattle.nodes.specs.Nodes.{Node}
+use Rattle.nodes.specs.Nodes.{Node, nodeAt}
 use Rattle.nodes.specs.Values.{valueOf, cellsOf}
 use Rattle.reading.specs.Features.{carries}
 
--- which feature carries a phandle: none, or that at a position
-pub data Carrier : Type 0 where
-  nowhere : Carrier
-  position : (i : ℕ) → Carrier
+-- which feature carries a phandle: that at a position, or none
+abbrev pub carriesAt : List Node → ℕ → ℕ → Bool
+carriesAt features p i = carries p (nodeAt features i)
 
--- among features whose positions begin at i
-unfoldable pub carrierFrom : ℕ → ℕ → List Node → Carrier
-carrierFrom p i [] = nowhere
-carrierFrom p i (n ∷ ns) = pick (carries p n) (position i) (carrierFrom p (suc i) ns)
+abbrev pub carrier : List Node → ℕ → Position
+carrier features p = firstThat (length features) (carriesAt features p)
 
-abbrev pub carrier : List Node → ℕ → Carrier
-carrier features p = carrierFrom p 0 features
-
-abbrev pub isSomewhere : Carrier → Bool
-isSomewhere nowhere = false
-isSomewhere (position i) = true
+abbrev pub isSomewhere : Position → Bool
+isSomewhere Nowhere = false
+isSomewhere (At i) = true
 
 -- "otherwise 13 at the begin token of the naming feature"
 unfoldable pub cellChecks : ℕ → List Node → List ℕ → List (Check Fault)
@@ -38,13 +35,32 @@ unfoldable pub carrierChecks : List Node → List Node → List (Check Fault)
 carrierChecks features [] = []
 carrierChecks features (n ∷ ns) = cellChecks (n .at) features (cellsOf (valueOf n "dependencies")) ++ carrierChecks features ns
 
--- "each dependency becomes the position of the feature with that phandle"; a slot with none stays zero
-abbrev pub slotOf : Carrier → ℕ
-slotOf nowhere = 0
-slotOf (position i) = i
+-- what phandles resolve to: positions, or nothing, where no feature carries one of them
+pub data Resolution : Type 0 where
+  unknown : Resolution
+  found : (positions : List ℕ) → Resolution
 
--- "16 a feature"
-unfoldable pub slotsOf : List Node → List Node → List ℕ
-slotsOf features [] = []
-slotsOf features (n ∷ ns) =
-    padded mostDependencies 0 (map (λ (p : ℕ). slotOf (carrier features p)) (cellsOf (valueOf n "dependencies"))) ++ slotsOf features ns
+-- what one phandle resolves to, by its carrier
+abbrev pub onePosition : Position → Resolution
+onePosition Nowhere = unknown
+onePosition (At i) = found (i ∷ [])
+
+-- two resolutions, one behind the other
+abbrev pub joined : Resolution → Resolution → Resolution
+joined unknown s = unknown
+joined (found is) unknown = unknown
+joined (found is) (found js) = found (is ++ js)
+
+-- "each dependency becomes the position of the feature with that phandle"
+unfoldable pub positionsOf : List Node → List ℕ → Resolution
+positionsOf features [] = found []
+positionsOf features (p ∷ ps) = joined (onePosition (carrier features p)) (positionsOf features ps)
+
+-- "16 a feature": its positions, and zero in the slots behind them
+abbrev pub slotRow : Resolution → Resolution
+slotRow unknown = unknown
+slotRow (found is) = found (padded mostDependencies 0 is)
+
+unfoldable pub slotsOf : List Node → List Node → Resolution
+slotsOf features [] = found []
+slotsOf features (n ∷ ns) = joined (slotRow (positionsOf features (cellsOf (valueOf n "dependencies")))) (slotsOf features ns)

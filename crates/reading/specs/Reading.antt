@@ -16,7 +16,7 @@ use Rattle.record.specs.Record.{mostFeatures, slotCount, noFeature, noFeatures}
 use Rattle.nodes.specs.Nodes.{Node, nodeAt, nodesNamed, children}
 use Rattle.nodes.specs.Values.{valueOf, isText, isCell, number}
 use Rattle.reading.specs.Features.{inOrder, nameChecks, featureChecks, featureOf}
-use Rattle.reading.specs.Dependencies.{carrierChecks, slotsOf}
+use Rattle.reading.specs.Dependencies.{carrierChecks, Resolution, unknown, found, slotsOf}
 
 -- "none is 10 at the structure's start, a second one 9 at its begin token"
 abbrev pub containerChecks : ℕ → List Node → List (Check Fault)
@@ -49,15 +49,23 @@ readChecks start containers =
     ++ carrierChecks features features
 
 -- "a record of at most 64 features with its count"; "Unused slots are zero"
-unfoldable pub recordOf : Node → Record
-recordOf container =
+unfoldable pub recordWith : Node → List ℕ → Record
+recordWith container slots =
     let features = children container in
     record {
       isa = number (valueOf container "isa");
       count = length features;
       features = padded mostFeatures noFeature (map featureOf features);
-      slots = padded slotCount 0 (slotsOf features features);
+      slots = padded slotCount 0 slots;
     }
+
+-- by what the dependencies of its features resolve to; no record of features where one of them does not
+abbrev pub recordBy : Node → Resolution → Record
+recordBy container unknown = noFeatures
+recordBy container (found slots) = recordWith container slots
+
+unfoldable pub recordOf : Node → Record
+recordOf container = recordBy container (slotsOf (children container) (children container))
 
 -- the containers of a tree
 abbrev pub containersOf : List ℕ → Blocks → List Node
