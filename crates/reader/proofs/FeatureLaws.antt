@@ -14,14 +14,13 @@ use Rattle.record.specs.declared.Feature.{Feature}
 use Rattle.feature.specs.declared.CellRead.{CellRead}
 use Rattle.feature.specs.declared.FeatureCells.{FeatureCells}
 use Rattle.feature.specs.Feature.{refusalOf, featureFrom}
-use Rattle.feature.specs.Phandles.{noted}
 use Rattle.feature.proofs.RefusalLaws.{first-none, first-zero}
 use Rattle.nodes.specs.declared.NodePlace.{NodePlace}
 use Rattle.nodes.specs.Nodes.{Node}
 use Rattle.nodes.specs.Values.{Value, lowBit}
 use Rattle.nodes.specs.Parts.{IsNode}
 use Rattle.reading.specs.Features.{bitChecks, featureChecks, givenWord, featureOf}
-use Rattle.reader.specs.Parts.{Holds, CellIs, Judged, notedOf, ArePhandles, BitIs, CellsAre, ReadsFeature}
+use Rattle.reader.specs.Parts.{Holds, CellIs, Judged, noted, notedOf, ArePhandles, BitIs, CellsAre, ReadsFeature}
 use Rattle.reader.proofs.JudgedLaws.{judged-both}
 use Rattle.reader.proofs.PropertyLaws.{required-judged, optional-judged}
 

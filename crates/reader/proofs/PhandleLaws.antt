@@ -1,67 +1,53 @@
 -- What is noted of the features' phandles. Assumes nothing.
-use mathlib.Core.Path.{_≡_, refl, sym, ap, _∙_}
-use mathlib.Core.Bool.{Bool, true, false}
-use mathlib.Core.List.{List, [], _∷_}
-use Prim.Native.Nat.{ℕ, zero, suc, _+_, _<_, _≤_}
+use mathlib.Core.Path.{_≡_, refl, sym, ap, subst, _∙_}
+use mathlib.Core.Bool.{Bool}
+use mathlib.Core.List.{List}
+use Prim.Native.Nat.{ℕ, _<_, _≤_, min}
 use native.Mathlib.Omega.{arith}
 use borrow.Author.Tests.{ne-eqb}
 use lib.Dec.{eqb}
 use lib.ListN.{length, getD}
-use Rattle.tokens.specs.Steps.{pick}
+use Rattle.positions.specs.declared.Position.{Position}
+use Rattle.positions.specs.declared.Position.the-variants.{Nowhere, At}
+use Rattle.positions.specs.Below.{firstThat}
+use Rattle.positions.proofs.FirstLaws.{IsFirst, first-that, first-is}
 use Rattle.record.specs.Record.{mostFeatures}
 use Rattle.nodes.specs.Nodes.{Node, nodeAt}
 use Rattle.nodes.specs.Values.{Value, missing, value, valueOf, isGiven, number}
-use Rattle.reading.specs.Features.{isCarried, carries}
-use Rattle.reading.specs.Dependencies.{Carrier, nowhere, position, carrierFrom, carrier}
+use Rattle.reading.specs.Features.{isCarried}
+use Rattle.reading.specs.Dependencies.{carriesAt, carrier}
 use Rattle.nodes.proofs.RowLaws.{row-node}
-use Rattle.feature.specs.Phandles.{noted, notedAt}
-use Rattle.feature.proofs.CarrierLaws.{FirstThat}
-use Rattle.reader.specs.Parts.{notedOf, ArePhandles}
+use Rattle.feature.specs.Phandles.{isAt}
+use Rattle.reader.specs.Parts.{noted, notedOf, ArePhandles}
 
 noted-value : (v : Value) (p : ℕ) → p < 0x100000000 → eqb (noted (isGiven v) (number v)) p ≡ isCarried p v
 noted-value missing p h = ne-eqb 0x100000000 p (λ e. absurd (omega arith))
 noted-value (value bs) p h = refl
 
 -- a feature carries a phandle where that is what is noted of it
-pub noted-carries : (phandles : List ℕ) (nodes : List Node) → ArePhandles phandles nodes → (p : ℕ) → p < 0x100000000 → (i : ℕ) → i < length nodes
-    → notedAt phandles p i ≡ carries p (nodeAt nodes i)
-unfolding notedAt
+noted-carries : (phandles : List ℕ) (nodes : List Node) → ArePhandles phandles nodes → (p : ℕ) → p < 0x100000000 → (i : ℕ) → i < length nodes
+    → isAt phandles p i ≡ carriesAt nodes p i
+unfolding isAt
 noted-carries phandles nodes h p l i k =
     ap (λ (xs : List ℕ). eqb (getD xs i 0) p) h
     ∙ ap (λ (x : ℕ). eqb x p) (row-node notedOf mostFeatures 0 nodes i k)
     ∙ noted-value (valueOf (nodeAt nodes i) "phandle") p l
 
--- the carrier is the first that carries the phandle
-abbrev behind : ℕ → ℕ → List Node → Bool → Carrier
-behind p i ns b = pick b (position i) (carrierFrom p (suc i) ns)
+-- what the search answers is the first; of 64 features or fewer, all are looked at
+pub is-first : (test : ℕ → Bool) {n : ℕ} {r x : Position} → n ≤ mostFeatures → r ≡ firstThat (min n mostFeatures) test → r ≡ x → IsFirst n test x
+is-first test {n} h e k =
+    let m : min n mostFeatures ≡ n = omega arith in
+    subst (IsFirst n test) (sym e ∙ k) (rw m (first-that n test))
 
-carrier-first : (p i : ℕ) (ns : List Node) (r : ℕ) → r < length ns → ((k : ℕ) → k < r → carries p (nodeAt ns k) ≡ false) → carries p (nodeAt ns r) ≡ true
-    → carrierFrom p i ns ≡ position (i + r)
-unfolding carrierFrom nodeAt
-carrier-first p i [] r h before there = absurd (omega arith)
-carrier-first p i (n ∷ ns) zero h before there = let e : i ≡ i + 0 = omega arith in ap (behind p i ns) there ∙ ap position e
-carrier-first p i (n ∷ ns) (suc r) h before there =
-    let e : suc i + r ≡ i + suc r = omega arith in
-    ap (behind p i ns) (before 0 (omega arith))
-    ∙ carrier-first p (suc i) ns r (omega arith) (λ k l. before (suc k) (omega arith)) there
-    ∙ ap position e
+-- two tests that agree
+first-same : (n : ℕ) (p q : ℕ → Bool) → ((i : ℕ) → i < n → p i ≡ q i) → (r : Position) → IsFirst n p r → IsFirst n q r
+first-same n p q e Nowhere f = λ i h. sym (e i h) ∙ f i h
+first-same n p q e (At r) f = (f .0, sym (e r (f .0)) ∙ f .1, λ i h. sym (e i (omega (arith, f .0))) ∙ f .2 i h)
 
-carrier-none : (p i : ℕ) (ns : List Node) → ((k : ℕ) → k < length ns → carries p (nodeAt ns k) ≡ false) → carrierFrom p i ns ≡ nowhere
-unfolding carrierFrom nodeAt
-carrier-none p i [] none = refl
-carrier-none p i (n ∷ ns) none =
-    ap (behind p i ns) (none 0 (omega arith)) ∙ carrier-none p (suc i) ns (λ k l. none (suc k) (omega arith))
-
-module _ (phandles : List ℕ) (nodes : List Node) (h : ArePhandles phandles nodes) {p n r : ℕ} (fits : p < 0x100000000)
-    (count : n ≡ length nodes) (f : FirstThat (notedAt phandles p) n r) where
-  passed : (k : ℕ) → k < r → carries p (nodeAt nodes k) ≡ false
-  passed k l = sym (noted-carries phandles nodes h p fits k (omega (arith, f .within))) ∙ f .before k l
-
-  pub carrier-there : r < n → carrier nodes p ≡ position r
-  carrier-there l =
-      let m : r < length nodes = omega arith in
-      let e : 0 + r ≡ r = omega arith in
-      carrier-first p 0 nodes r m passed (sym (noted-carries phandles nodes h p fits r m) ∙ f .there l) ∙ ap position e
-
-  pub carrier-nowhere : n ≤ r → carrier nodes p ≡ nowhere
-  carrier-nowhere l = carrier-none p 0 nodes (λ k m. passed k (omega arith))
+-- it is the carrier
+pub carrier-is : (phandles : List ℕ) (nodes : List Node) → ArePhandles phandles nodes → {p n : ℕ} {r : Position} → p < 0x100000000 → n ≡ length nodes
+    → IsFirst n (isAt phandles p) r → r ≡ carrier nodes p
+carrier-is phandles nodes h {p} {n} {r} fits count f =
+    first-is (length nodes) (carriesAt nodes p)
+    (first-same (length nodes) (isAt phandles p) (carriesAt nodes p) (noted-carries phandles nodes h p fits) r
+    (subst (λ (m : ℕ). IsFirst m (isAt phandles p) r) count f))

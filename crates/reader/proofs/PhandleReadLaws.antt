@@ -1,29 +1,32 @@
 -- What is found of a phandle behind the features of some nodes. Assumes nothing.
-use mathlib.Core.Path.{_≡_, refl, sym, _∙_}
+use mathlib.Core.Path.{_≡_, refl, sym, subst, _∙_}
 use mathlib.Core.Bool.{Bool, true, false, not, false≢true}
 use mathlib.Core.List.{List, [], _∷_}
-use Prim.Native.Nat.{ℕ, zero, suc, _<_, _≤_}
+use Prim.Native.Nat.{ℕ, zero, suc, _<_}
 use native.Mathlib.Omega.{arith}
 use borrow.Author.Tests.{eq-eqb, ne-eqb, leb-true, leb-false}
 use lib.Dec.{leb}
 use lib.ListN.{length}
 use Rattle.cells.specs.Cells.{cellAt}
 use Rattle.tokens.specs.Steps.{pick}
+use Rattle.positions.specs.declared.Position.{Position}
+use Rattle.positions.specs.declared.Position.the-variants.{Nowhere, At}
 use Rattle.positions.proofs.BelowLaws.{no-way}
+use Rattle.positions.proofs.FirstLaws.{IsFirst, first-that}
 use Rattle.refusal.specs.declared.Refusal.the-variants.{OutOfRange, Repeated}
 use Rattle.refusal.specs.Refusal.{numberOf}
 use Rattle.feature.specs.declared.CellRead.{CellRead}
 use Rattle.feature.specs.Feature.{firstOf}
-use Rattle.feature.specs.Phandles.{notedAt}
+use Rattle.feature.specs.Phandles.{isAt}
 use Rattle.feature.proofs.RefusalLaws.{first-zero}
-use Rattle.feature.proofs.CarrierLaws.{FirstThat}
 use Rattle.nodes.specs.Nodes.{Node, nodeAt}
 use Rattle.nodes.specs.Values.{Value, missing, value, isGiven, number}
+use Rattle.reading.specs.Dependencies.{carriesAt, carrier, isSomewhere}
 use Rattle.reading.specs.Features.{some, carries, isPhandle, isRepeated, phandleChecks}
 use Rattle.reader.specs.Parts.{noCell, cellFault, Holds, CellIs, atMost, Judged, ArePhandles, PhandleIs}
 use Rattle.reader.proofs.JudgedLaws.{judged-both}
-use Rattle.reading.proofs.Carriers.{some-none}
-use Rattle.reader.proofs.PhandleLaws.{noted-carries}
+use Rattle.reading.proofs.Carriers.{carrier-carries, some-none}
+use Rattle.reader.proofs.PhandleLaws.{carrier-is}
 use Rattle.reader.proofs.PropertyLaws.{judged-pick, form-judged}
 use Rattle.reader.proofs.RangeLaws.{Ranged, ranged}
 
@@ -57,14 +60,11 @@ unfolding some nodeAt
 none-some q [] f = refl
 none-some q (n ∷ ns) f = rw (f 0 (omega arith)) (none-some q ns (λ k l. f (suc k) (omega arith)))
 
-module _ (phandles : List ℕ) (p : ℕ) {n i : ℕ} (f : FirstThat (notedAt phandles p) n i) (l : p < 0x100000000)
-    (before : List Node) (h : ArePhandles phandles before) (e : n ≡ length before) where
-  noted-there : i < n → some (carries p) before ≡ true
-  noted-there m = some-one (carries p) before i (omega arith) (sym (noted-carries phandles before h p l i (omega arith)) ∙ f .there m)
-
-  noted-nowhere : n ≤ i → some (carries p) before ≡ false
-  noted-nowhere m =
-      none-some (carries p) before (λ k o. sym (noted-carries phandles before h p l k o) ∙ f .before k (omega arith))
+-- one of them carries a phandle where its carrier is somewhere
+some-carrier : (p : ℕ) (before : List Node) (r : Position) → r ≡ carrier before p → some (carries p) before ≡ isSomewhere r
+some-carrier p before Nowhere e =
+    none-some (carries p) before (subst (IsFirst (length before) (carriesAt before p)) (sym e) (first-that (length before) (carriesAt before p)))
+some-carrier p before (At i) e = let c = carrier-carries before p (sym e) in some-one (carries p) before i (c .0) (c .1)
 
 repeated : {p : ℕ} (before : List Node) (v : Value) → isGiven v ≡ true → number v ≡ p → isRepeated before v ≡ some (carries p) before
 repeated before missing g e = absurd (false≢true g)
@@ -134,24 +134,24 @@ module _ {v : Value} {c read : CellRead} (h : CellIs false v c) (l : c .number <
       cell = λ z. absurd (omega arith);
     })
 
-    module _ (z : read .number ≡ 0 → ⊥) (phandles : List ℕ) {n i : ℕ} (f : FirstThat (notedAt phandles (read .number)) n i) where
+    module _ (z : read .number ≡ 0 → ⊥) (phandles : List ℕ) where
       fits : read .number < 0x100000000
       fits = omega (arith, is .number, leb-true (number v) 0xfffffffe small)
 
-      fault-is : (before : List Node) {b : Bool} → some (carries (read .number)) before ≡ b → _≡_ {A = ℕ} (pick (not b) 0 9) (phandleFault before v)
-      fault-is before e =
-          rw (neither .0, good-phandle v (λ y. z (is .number ∙ y)) small, repeated before v (sym (is .given) ∙ g) (sym (is .number)), e)
+      fault-is : {n : ℕ} (x : Position) → IsFirst n (isAt phandles (read .number)) x → (before : List Node) → ArePhandles phandles before → n ≡ length before
+          → _≡_ {A = ℕ} (pick (not (isSomewhere x)) 0 9) (phandleFault before v)
+      fault-is x f before y k =
+          let s = some-carrier (read .number) before x (carrier-is phandles before y fits k f) in
+          rw (neither .0, good-phandle v (λ y. z (is .number ∙ y)) small, repeated before v (sym (is .given) ∙ g) (sym (is .number)), s)
 
-      pub phandle-again : i < n → {r : CellRead} → r ≡ noCell Repeated → PhandleIs phandles n v r
-      phandle-again m e = rw e (record {
-        judged = λ before y k at.
-            phandle-judged before v at (fault-is before (noted-there phandles (read .number) f fits before y k m));
+      pub phandle-again : {n i : ℕ} → IsFirst n (isAt phandles (read .number)) (At i) → {r : CellRead} → r ≡ noCell Repeated → PhandleIs phandles n v r
+      phandle-again {i = i} f e = rw e (record {
+        judged = λ before y k at. phandle-judged before v at (fault-is (At i) f before y k);
         cell = λ z. absurd (omega arith);
       })
 
-      pub phandle-new : n ≤ i → PhandleIs phandles n v read
-      phandle-new m = record {
-        judged = λ before y k at.
-            phandle-judged before v at (good ∙ fault-is before (noted-nowhere phandles (read .number) f fits before y k m));
+      pub phandle-new : {n : ℕ} → IsFirst n (isAt phandles (read .number)) Nowhere → PhandleIs phandles n v read
+      phandle-new f = record {
+        judged = λ before y k at. phandle-judged before v at (good ∙ fault-is Nowhere f before y k);
         cell = found .cell;
       }

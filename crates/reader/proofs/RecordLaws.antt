@@ -1,7 +1,7 @@
 -- The features of a container, one after the other, and then their dependencies. Assumes nothing.
 use mathlib.Core.Path.{_≡_, refl, sym, ap, subst, _∙_}
 use mathlib.Core.List.{List, [], _∷_, _++_, map}
-use Prim.Native.Nat.{ℕ, zero, suc, _+_, _<_, _≤_}
+use Prim.Native.Nat.{ℕ, _+_, _<_, _≤_}
 use native.Mathlib.Omega.{arith}
 use native.Mathlib.Numerals.{add-one}
 use native.Mathlib.Decide.{decLt}
@@ -23,21 +23,16 @@ use Rattle.nodes.specs.Nodes.{Node, nodeAt, children}
 use Rattle.nodes.specs.Values.{valueOf, cellsOf}
 use Rattle.reading.specs.Features.{inOrder, featureChecks, featureOf}
 use Rattle.reading.specs.Dependencies.{carrierChecks}
-use Rattle.reading.specs.Reading.{recordOf}
+use Rattle.reading.specs.Reading.{recordWith, recordOf}
 use Rattle.reading.specs.Ends.{AllHold}
 use Rattle.nodes.specs.Places.{noPlace}
 use Rattle.reader.specs.Parts.{notedOf, ArePhandles, AreFeatures, FeatureIs, ReadsFeature, AtPlaces, FeaturesAre, Known, SlotsAre, Contains, readFeatures}
 use Rattle.nodes.proofs.RowLaws.{row-more}
 use Rattle.reading.proofs.CheckLaws.{hold-both, fail-left, fail-right, hold-decide, fail-decides}
+use Rattle.reading.proofs.SlotRowLaws.{take-node}
 use Rattle.reading.proofs.OrderLaws.{order-holds, order-fails}
 
--- a list of nodes with one more
-take-node : (nodes : List Node) (i : ℕ) → i < length nodes → take (suc i) nodes ≡ take i nodes ++ nodeAt nodes i ∷ []
-unfolding nodeAt
-take-node [] i h = absurd (omega arith)
-take-node (n ∷ nodes) zero h = refl
-take-node (n ∷ nodes) (suc i) h = ap (λ (l : List Node). n ∷ l) (take-node nodes i (omega arith))
-
+-- a row of what nodes give, with one node more
 row-taken : {A : Type 0} (m : ℕ) (z : A) (g : Node → A) (nodes : List Node) (i : ℕ) → i < length nodes → length nodes ≤ m
     → {row : List A} {x : A} → row ≡ padded m z (map g (take i nodes)) → x ≡ g (nodeAt nodes i)
     → set row i x ≡ padded m z (map g (take (i + 1) nodes))
@@ -142,10 +137,10 @@ module _ {tree : List ℕ} {b : Blocks} {isa : ℕ} {fs : ChildPlaces} {c : Node
 
       pub slots-read : numberOf (found .refusal) ≡ 0
           → placed (record { isa = isa; count = fs .count; features = read .features; slots = slots }) ≡ readFeatures c
-      unfolding readFeatures recordOf
+      unfolding readFeatures recordOf recordWith
       slots-read q =
           same
           ∙ sym (hold-decide (refuseAt noFeatures) _ _ (hold-both (inOrder featureChecks [] (children c)) (carrierChecks (children c) (children c)) (r .judged .hold z) (s .judged .hold q)))
         where
           same : _≡_ {A = Placed Record} (placed (record { isa = isa; count = fs .count; features = read .features; slots = slots })) (placed (recordOf c))
-          same = rw (g .isa, g .nodes .count, r .features z, s .found q)
+          same = let f = s .filled q in rw (g .isa, g .nodes .count, r .features z, f .1, f .2)

@@ -6,7 +6,7 @@ use Prim.Native.Nat.{ℕ, suc, _+_, _*_, _<_, _≤_}
 use native.Mathlib.Omega.{arith}
 use native.Mathlib.Numerals.{add-one}
 use lib.ListN.{length, getD, take, drop, replicate}
-use lib.Seq.{take-all}
+use lib.Seq.{length-take-le, take-all}
 use Rattle.cells.specs.Rows.{padded}
 use Rattle.characters.specs.Characters.{bytes}
 use Rattle.header.specs.declared.Blocks.{Blocks}
@@ -15,38 +15,35 @@ use Rattle.record.specs.Record.{mostDependencies, slotCount}
 use Rattle.nodes.specs.declared.ChildPlaces.{ChildPlaces}
 use Rattle.nodes.specs.Nodes.{Node, nodeAt}
 use Rattle.nodes.specs.Values.{cellsOf}
-use Rattle.reading.specs.Dependencies.{carrierChecks, slotsOf}
+use Rattle.reading.specs.Dependencies.{carrierChecks, positionsOf}
 use Rattle.reading.specs.Accepted.{dependenciesOf}
-use Rattle.reading.specs.Ends.{AllHold, FirstFailing}
+use Rattle.reading.specs.Ends.{FirstFailing}
 use Rattle.nodes.specs.Places.{noPlace}
 use Rattle.reader.specs.Parts.{Resolves, dependenciesAt, RoomFor, ResolvesFeature, Known, SomeKnown, ResolvesAll}
 use Rattle.reading.proofs.Carriers.{node-split}
-use Rattle.reading.proofs.SlotRowLaws.{take-node, hold-last, fail-at, slots-longer, slots-last}
+use Rattle.reading.proofs.Resolutions.{carriers-length, found-carriers, unknown-fails}
+use Rattle.reading.proofs.SlotRowLaws.{take-node, pad-inside, fail-at, Rows, noRows, rows-more, rows-found, rows-hold, rows-length}
 
 -- the slots of the first features
-pub record FirstResolved (nodes first : List Node) (i : ℕ) (slots : List ℕ) : Type 0 where
-  pub hold : AllHold (carrierChecks nodes first)
-  pub size : length (slotsOf nodes first) ≡ mostDependencies * i
-  pub found : slots ≡ padded slotCount 0 (slotsOf nodes first)
-
-none-resolved : (nodes : List Node) → FirstResolved nodes [] 0 (replicate slotCount 0)
-unfolding carrierChecks slotsOf
-none-resolved nodes = record { hold = tt; size = refl; found = refl }
+pub record FirstResolved (nodes first : List Node) (slots : List ℕ) : Type 0 where
+  pub filled : List ℕ
+  pub rows : Rows nodes first filled
+  pub are : slots ≡ padded slotCount 0 filled
 
 module _ (tree : List ℕ) (b : Blocks) (fs : ChildPlaces) (phandles : List ℕ) where
   pub record AllResolved (slots : List ℕ) (i : ℕ) : Type 0 where
-    pub all : (nodes : List Node) → Known tree b fs phandles nodes → FirstResolved nodes (take i nodes) i slots
+    pub all : (nodes : List Node) → Known tree b fs phandles nodes → FirstResolved nodes (take i nodes) slots
 
   pub resolve-begins : {slots : List ℕ} → slots ≡ replicate slotCount 0 → AllResolved slots 0
-  resolve-begins e = rw e (record { all = λ nodes k. none-resolved nodes })
+  resolve-begins e = rw e (record { all = λ nodes k. record { filled = []; rows = noRows; are = refl } })
 
   pub all-resolved : {slots : List ℕ} {i : ℕ} → AllResolved slots i → fs .count ≤ i
       → ResolvesAll tree b fs phandles slots (record { refusal = None; place = 0 })
   all-resolved {slots} {i} r h nodes k =
-      let e = take-all i nodes (omega (arith, k .at .count)) in
+      let f : FirstResolved nodes nodes slots = rw (take-all i nodes (omega (arith, k .at .count))) at (r .all nodes k) in
       record {
-        judged = record { hold = λ z. rw e at (r .all nodes k .hold); fail = λ z. absurd (z refl) };
-        found = λ z. rw e at (r .all nodes k .found);
+        judged = record { hold = λ z. rows-hold nodes (f .rows); fail = λ z. absurd (z refl) };
+        filled = λ z. (f .filled, rows-found nodes (f .rows), f .are);
       }
 
   -- the next feature
@@ -65,7 +62,7 @@ module _ (tree : List ℕ) (b : Blocks) (fs : ChildPlaces) (phandles : List ℕ)
     -- what the call does
     module _ {old new : List ℕ} {t : Bool} (r : AllResolved old i)
         (call : ResolvesFeature tree b first phandles (fs .count) (mostDependencies * i) old new t) where
-      called : (nodes : List Node) → Known tree b fs phandles nodes → Resolves nodes (dependenciesOf (nodeAt nodes i)) (mostDependencies * i) old new t
+      called : (nodes : List Node) → Known tree b fs phandles nodes → Resolves (positionsOf nodes (dependenciesOf (nodeAt nodes i))) (mostDependencies * i) old new t
       called nodes k = rw (cells-are k) at (call nodes (k .noted) (k .at .count))
 
       pub resolve-more : t ≡ true → AllResolved new (i + 1)
@@ -75,15 +72,18 @@ module _ (tree : List ℕ) (b : Blocks) (fs : ChildPlaces) (phandles : List ℕ)
             let n = nodeAt nodes i in
             let before = r .all nodes k in
             let h : i < length nodes = omega (arith, k .at .count) in
-            let room : length (slotsOf nodes (take i nodes)) + mostDependencies ≤ slotCount = omega (arith, before .size, k .at .few) in
+            let size : length (before .filled) ≡ mostDependencies * i = rows-length nodes (before .rows) ∙ ap (λ (x : ℕ). mostDependencies * x) (length-take-le i nodes (omega arith)) in
+            let s = called nodes k .all z in
+            let c = found-carriers nodes (dependenciesOf n) (s .1) in
+            let few : length (s .0) ≤ mostDependencies = omega (arith, carriers-length nodes c, k .few i h) in
             let more : take (i + 1) nodes ≡ take i nodes ++ n ∷ [] = ap (λ (x : ℕ). take x nodes) (add-one i) ∙ take-node nodes i h in
             rw more
             (record {
-              hold = hold-last nodes (take i nodes) n (before .hold) (called nodes k .hold z (n .at));
-              size = slots-longer nodes (take i nodes) n (k .few i h) ∙ omega (arith, before .size);
-              found =
-                  called nodes k .found z (slotsOf nodes (take i nodes)) (before .size) (before .found)
-                  ∙ slots-last nodes (take i nodes) n (k .few i h) slotCount room;
+              filled = before .filled ++ padded mostDependencies 0 (s .0);
+              rows = rows-more nodes n (before .rows) (k .few i h) c;
+              are =
+                  s .2 (before .filled) size (before .are)
+                  ∙ pad-inside slotCount mostDependencies (before .filled) (s .0) few (omega (arith, size, k .at .few));
             });
       }
 
@@ -91,7 +91,8 @@ module _ (tree : List ℕ) (b : Blocks) (fs : ChildPlaces) (phandles : List ℕ)
       resolve-fail z nodes k =
           let n = nodeAt nodes i in
           let h : i < length nodes = omega (arith, k .at .count) in
-          let here = fail-at nodes (take i nodes) n (drop (suc i) nodes) (r .all nodes k .hold) (called nodes k .fail z (n .at)) in
+          let none = unknown-fails nodes (n .at) (dependenciesOf n) (called nodes k .none z) in
+          let here = fail-at nodes (take i nodes) n (drop (suc i) nodes) (rows-hold nodes (r .all nodes k .rows)) none in
           let all = subst⁻¹ (λ (l : List Node). FirstFailing (carrierChecks nodes l) 13 (n .at)) (node-split nodes i h) here in
           let at = subst (FirstFailing (carrierChecks nodes nodes) 13) (k .at .places i h .offset) all in
-          record { judged = record { hold = λ z. absurd (omega arith); fail = λ z. at }; found = λ z. absurd (omega arith) }
+          record { judged = record { hold = λ z. absurd (omega arith); fail = λ z. at }; filled = λ z. absurd (omega arith) }

@@ -1,7 +1,7 @@
 -- What the parts of the reader's code answer. The promises of the public functions rest on `Reading`, not on this file.
 use Prim.Native.Nat.{ℕ, _+_, _*_, _≤_, _<_}
 use mathlib.Core.Path.{_≡_}
-use mathlib.Core.Bool.{Bool, true, false}
+use mathlib.Core.Bool.{Bool, true, false, cond}
 use mathlib.Core.List.{List, [], _++_, map}
 use lib.ListN.{length, getD, set}
 use Rattle.tokens.specs.Tokens.{Token}
@@ -29,12 +29,11 @@ use Rattle.feature.specs.declared.CellRead.{CellRead}
 use Rattle.feature.specs.declared.SupportCells.{SupportCells}
 use Rattle.feature.specs.declared.BitCells.{BitCells}
 use Rattle.feature.specs.declared.FeatureCells.{FeatureCells}
-use Rattle.feature.specs.Phandles.{noted}
 use Rattle.reading.specs.Reading.{containerProperties, countChecks, recordOf}
 use Rattle.nodes.specs.Parts.{Alike, IsNode, AreNodes}
 use Rattle.nodes.specs.Values.{Value, missing, value, valueIn, valueOf, isGiven, number, cellsOf}
 use Rattle.reading.specs.Features.{inOrder, nameChecks, bitChecks, phandleChecks, dependenciesChecks, featureChecks, featureOf}
-use Rattle.reading.specs.Dependencies.{carrier, slotOf, cellChecks, carrierChecks, slotsOf}
+use Rattle.reading.specs.Dependencies.{carrierChecks, Resolution, unknown, found, positionsOf, slotsOf}
 use Rattle.reading.specs.Ends.{AllHold, FirstFailing}
 use Rattle.reader.specs.declared.features.FeatureRead.{FeatureRead}
 use Rattle.reader.specs.declared.features.FeaturesRead.{FeaturesRead}
@@ -73,6 +72,10 @@ pub record CountIs (v : Value) (r : CellRead) : Type 0 where
   pub judged : (at : ℕ) → Judged (dependenciesChecks at v) (numberOf (r .refusal)) at
   pub given : numberOf (r .refusal) ≡ 0 → r .given ≡ isGiven v
   pub number : numberOf (r .refusal) ≡ 0 → r .number ≡ length (cellsOf v)
+
+-- what is noted of a feature's phandle: a number that no cell holds where there is none
+abbrev pub noted : Bool → ℕ → ℕ
+noted given n = cond given n 0x100000000
 
 -- what is noted of a node's phandle
 abbrev pub notedOf : Node → ℕ
@@ -151,17 +154,16 @@ pub record CellsLie (tree : List ℕ) (ps : List ℕ) (from : ℕ) : Type 0 wher
   pub within : from + 4 * length ps ≤ length tree
   pub each : (j : ℕ) → j < length ps → cellAt tree (from + 4 * j) ≡ getD ps j 0
 
--- the slots of phandles, behind others; a phandle that no feature carries
-pub record Resolves (nodes : List Node) (ps : List ℕ) (at : ℕ) (old new : List ℕ) (r : Bool) : Type 0 where
-  pub found : r ≡ true → (xs : List ℕ) → length xs ≡ at → old ≡ padded slotCount 0 xs
-      → new ≡ padded slotCount 0 (xs ++ map (λ (p : ℕ). slotOf (carrier nodes p)) ps)
-  pub hold : r ≡ true → (place : ℕ) → AllHold (cellChecks place nodes ps)
-  pub fail : r ≡ false → (place : ℕ) → FirstFailing (cellChecks place nodes ps) 13 place
+-- what phandles resolve to, put into the slots behind others; false where it is nothing
+pub record Resolves (r : Resolution) (at : ℕ) (old new : List ℕ) (answer : Bool) : Type 0 where
+  pub all : answer ≡ true
+      → (ks : List ℕ) × (r ≡ found ks) × ((xs : List ℕ) → length xs ≡ at → old ≡ padded slotCount 0 xs → new ≡ padded slotCount 0 (xs ++ ks))
+  pub none : answer ≡ false → r ≡ unknown
 
 abbrev pub ResolvesCells : List ℕ → ℕ → ℕ → List ℕ → ℕ → ℕ → List ℕ → List ℕ → Bool → Type 0
 ResolvesCells tree from n phandles count at old new r =
     (nodes : List Node) (ps : List ℕ) → ArePhandles phandles nodes → count ≡ length nodes → n ≡ length ps → CellsLie tree ps from
-    → Resolves nodes ps at old new r
+    → Resolves (positionsOf nodes ps) at old new r
 
 -- the cells of the dependencies of a node whose properties begin at a place
 abbrev pub dependenciesAt : List ℕ → Blocks → ℕ → List ℕ
@@ -172,7 +174,7 @@ RoomFor tree b first at = at + length (dependenciesAt tree b first) ≤ slotCoun
 
 abbrev pub ResolvesFeature : List ℕ → Blocks → ℕ → List ℕ → ℕ → ℕ → List ℕ → List ℕ → Bool → Type 0
 ResolvesFeature tree b first phandles count at old new r =
-    (nodes : List Node) → ArePhandles phandles nodes → count ≡ length nodes → Resolves nodes (dependenciesAt tree b first) at old new r
+    (nodes : List Node) → ArePhandles phandles nodes → count ≡ length nodes → Resolves (positionsOf nodes (dependenciesAt tree b first)) at old new r
 
 -- places of nodes whose features were read
 pub record Known (tree : List ℕ) (b : Blocks) (fs : ChildPlaces) (phandles : List ℕ) (nodes : List Node) : Type 0 where
@@ -186,7 +188,7 @@ SomeKnown tree b fs phandles = (nodes : List Node) × Known tree b fs phandles n
 -- all dependencies
 pub record SlotsAre (nodes : List Node) (slots : List ℕ) (r : Finding) : Type 0 where
   pub judged : Judged (carrierChecks nodes nodes) (numberOf (r .refusal)) (r .place)
-  pub found : numberOf (r .refusal) ≡ 0 → slots ≡ padded slotCount 0 (slotsOf nodes nodes)
+  pub filled : numberOf (r .refusal) ≡ 0 → (ks : List ℕ) × (slotsOf nodes nodes ≡ found ks) × (slots ≡ padded slotCount 0 ks)
 
 abbrev pub ResolvesAll : List ℕ → Blocks → ChildPlaces → List ℕ → List ℕ → Finding → Type 0
 ResolvesAll tree b fs phandles slots r = (nodes : List Node) → Known tree b fs phandles nodes → SlotsAre nodes slots r

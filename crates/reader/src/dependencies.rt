@@ -4,6 +4,7 @@ use header::Blocks;
 use nodes::ChildPlaces;
 use nodes::Held;
 use nodes::value_of;
+use positions::Position;
 use record::MOST_DEPENDENCIES;
 use record::MOST_FEATURES;
 use record::SLOTS;
@@ -47,11 +48,11 @@ fn resolve_cells(
     let mut j: usize = 0;
     while j < n {
         let phandle = cells::cell_at(tree, from + 4 * j);
-        let k = carrier_below(phandles, count, phandle);
-        if count <= k {
-            return false;
+        let carrier = carrier_below(phandles, count, phandle);
+        match carrier {
+            Position::Nowhere => return false,
+            Position::At(k) => slots[at + j] = k as u16,
         }
-        slots[at + j] = k as u16;
         j += 1;
     }
     true

@@ -11,14 +11,15 @@ use feature::SupportCells;
 use feature::carrier_below;
 use feature::feature_of;
 use feature::no_feature;
-use feature::phandle_noted;
 use feature::refusal_of;
 use header::Blocks;
 use nodes::ChildPlaces;
 use nodes::NodePlace;
+use positions::Position;
 use record::Feature;
 use record::MOST_FEATURES;
 use refusal::Refusal;
+ghost use mathlib.Core.Path.{_≡_};
 ghost use mathlib.Core.List.{[]};
 ghost use Prim.Native.Nat.{_≤_, _<_};
 ghost use lib.ListN.{length as length-of};
@@ -28,6 +29,7 @@ ghost use Rattle.record.specs.Record.{mostFeatures};
 ghost use Rattle.walk.specs.Walk.{treeTokens};
 ghost use Rattle.nodes.specs.Values.{valueIn};
 ghost use Rattle.reader.specs.Parts.{
+  noted,
   PhandleIs,
   SupportIs,
   BitsAre,
@@ -40,6 +42,9 @@ ghost use Rattle.reader.specs.Parts.{
 
 // The highest phandle: all ones is none.
 const HIGHEST_PHANDLE: u32 = 0xfffffffe;
+
+// Above every cell.
+const NO_PHANDLE: u64 = 0x100000000;
 
 // A feature: its refusal, and the feature where there is none.
 pub(crate) struct FeatureRead {
@@ -76,10 +81,11 @@ fn read_phandle(
     if read.number == 0 {
         return no_cell(Refusal::OutOfRange);
     }
-    if carrier_below(phandles, n, read.number) < n {
-        return no_cell(Refusal::Repeated);
+    let carrier = carrier_below(phandles, n, read.number);
+    match carrier {
+        Position::Nowhere => read,
+        Position::At(_) => no_cell(Refusal::Repeated),
     }
-    read
 }
 
 // Who may use a feature, and its supports.
@@ -125,6 +131,16 @@ fn read_cells(
         phandle: read_phandle(tree, b, first, phandles, n),
         dependencies: read_count(tree, b, first),
     }
+}
+
+// What is noted of a feature's phandle: the phandle, or a number that no cell holds where there is none.
+fn phandle_noted(c: CellRead) -> u64
+    ensures { λ r. ⌜ r ≡ noted (c .given) (c .number) ⌝ }
+{
+    if c.given {
+        return c.number as u64;
+    }
+    NO_PHANDLE
 }
 
 // The feature at a place, the one at position `i`, by the phandles of those before it; its own is noted.

@@ -1,6 +1,6 @@
 -- `reader::dependencies::resolve_cells` meets its contract. Assumes nothing.
 use Prim.Native.Nat.{_-_}
-use Rattle.feature.proofs.CarrierLaws.{first-that}
+use Rattle.reader.proofs.PhandleLaws.{is-first}
 use Rattle.reader.proofs.CellSlotLaws.{CellsResolved, cells-begin, cells-resolved, cells-more, cells-fail}
 use native.Mathlib.Omega.{arith}
 use borrow.Author.Needs.{needs}
@@ -28,14 +28,21 @@ cell-at-requires c κs = omega arith
 carrier-below-requires : tie.Need-carrier-below-requires Inv-loop μ-loop
 carrier-below-requires c κs = search needs
 
+enum-told : tie.Need-enum-told Inv-loop μ-loop
+enum-told c = search needs
+
 returns : tie.Need-returns Inv-loop μ-loop
 returns c =
-    let l = c .before .before .before .before .loop .inv in
-    cells-fail _ _ _ _ _ _ _ l (omega arith) (c .before .before .cell-at .ensures) (omega arith)
-    (first-that (omega arith) (c .before .carrier-below .ensures)) (omega arith)
+    cells-fail _ _ _ _ _ _ _ (c .before .before .before .before .before .loop .inv) (omega arith) (c .before .before .before .cell-at .ensures) (omega arith)
+    (is-first _ (omega arith) (c .before .before .carrier-below .ensures) (c .enum-told .given .1))
+
+enum-known-carrier : tie.Need-enum-known-carrier Inv-loop μ-loop
+enum-known-carrier c = search needs
 
 cast-slots : tie.Need-cast-slots Inv-loop μ-loop
-cast-slots c = omega arith
+cast-slots c =
+    let f = is-first _ (omega arith) (c .before .before .before .carrier-below .ensures) (c .before .carrier .given .1) in
+    omega (arith, f .0)
 
 add-slots : tie.Need-add-slots Inv-loop μ-loop
 add-slots c = omega arith
@@ -54,9 +61,8 @@ loop-less c = omega arith
 
 loop-again : tie.Need-loop-again Inv-loop μ-loop
 loop-again c =
-    let l = c .before .before .before .before .loop .inv in
-    cells-more _ _ _ _ _ _ _ l (omega arith) (c .before .before .cell-at .ensures) (omega arith)
-    (first-that (omega arith) (c .before .carrier-below .ensures)) (omega arith) (omega arith)
+    cells-more _ _ _ _ _ _ _ (c .before .before .before .before .before .before .loop .inv) (omega arith) (c .before .before .before .before .cell-at .ensures) (omega arith)
+    (is-first _ (omega arith) (c .before .before .before .carrier-below .ensures) (c .before .carrier .given .1)) (omega arith)
 
 returns-2 : tie.Need-returns-2 Inv-loop μ-loop
 returns-2 c = cells-resolved _ _ _ _ _ _ _ (c .before .loop .inv) (omega arith)
@@ -72,7 +78,9 @@ resolve-cells-spec =
     add-cell-at
     cell-at-requires
     carrier-below-requires
+    enum-told
     returns
+    enum-known-carrier
     cast-slots
     add-slots
     mul-slots
