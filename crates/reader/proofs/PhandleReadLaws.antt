@@ -1,7 +1,7 @@
 -- What is found of a phandle behind the features of some nodes. Assumes nothing.
-use mathlib.Core.Path.{_≡_, refl, sym, subst, _∙_}
+use mathlib.Core.Path.{_≡_, refl, sym, ap, _∙_}
 use mathlib.Core.Bool.{Bool, true, false, not, false≢true}
-use mathlib.Core.List.{List, [], _∷_}
+use mathlib.Core.List.{List}
 use Prim.Native.Nat.{ℕ, zero, suc, _<_}
 use native.Mathlib.Omega.{arith}
 use borrow.Author.Tests.{eq-eqb, ne-eqb, leb-true, leb-false}
@@ -11,21 +11,20 @@ use Rattle.cells.specs.Cells.{cellAt}
 use Rattle.tokens.specs.Steps.{pick}
 use Rattle.positions.specs.declared.Position.{Position}
 use Rattle.positions.specs.declared.Position.the-variants.{Nowhere, At}
-use Rattle.positions.proofs.BelowLaws.{no-way}
-use Rattle.positions.proofs.FirstLaws.{IsFirst, first-that}
+use Rattle.positions.proofs.FirstLaws.{IsFirst}
 use Rattle.refusal.specs.declared.Refusal.the-variants.{OutOfRange, Repeated}
 use Rattle.refusal.specs.Refusal.{numberOf}
 use Rattle.feature.specs.declared.CellRead.{CellRead}
 use Rattle.feature.specs.Feature.{firstOf}
 use Rattle.feature.specs.Phandles.{isAt}
 use Rattle.feature.proofs.RefusalLaws.{first-zero}
-use Rattle.nodes.specs.Nodes.{Node, nodeAt}
+use Rattle.nodes.specs.Nodes.{Node}
 use Rattle.nodes.specs.Values.{Value, missing, value, isGiven, number}
-use Rattle.reading.specs.Dependencies.{carriesAt, carrier, isSomewhere}
+use Rattle.reading.specs.Dependencies.{carrier, isSomewhere}
 use Rattle.reading.specs.Features.{some, carries, isPhandle, isRepeated, phandleChecks}
 use Rattle.reader.specs.Parts.{noCell, cellFault, Holds, CellIs, atMost, Judged, ArePhandles, PhandleIs}
 use Rattle.reader.proofs.JudgedLaws.{judged-both}
-use Rattle.reading.proofs.Carriers.{carrier-carries, some-none}
+use Rattle.reading.proofs.Carriers.{some-carrier}
 use Rattle.reader.proofs.PhandleLaws.{carrier-is}
 use Rattle.reader.proofs.PropertyLaws.{judged-pick, form-judged}
 use Rattle.reader.proofs.RangeLaws.{Ranged, ranged}
@@ -47,25 +46,7 @@ good-phandle (value bs) z e =
     let h = leb-true (cellAt bs 0) 0xfffffffe e in
     rw (ne-eqb (cellAt bs 0) 0 z, ne-eqb (cellAt bs 0) 0xffffffff (λ q. omega arith))
 
--- one of some nodes
-some-one : (q : Node → Bool) (ns : List Node) (k : ℕ) → k < length ns → q (nodeAt ns k) ≡ true → some q ns ≡ true
-some-one q ns k l h = go (some q ns) refl
-  where
-    go : (b : Bool) → some q ns ≡ b → b ≡ true
-    go true e = refl
-    go false e = no-way (q (nodeAt ns k)) h (some-none q ns k l e)
-
-none-some : (q : Node → Bool) (ns : List Node) → ((k : ℕ) → k < length ns → q (nodeAt ns k) ≡ false) → some q ns ≡ false
-unfolding some nodeAt
-none-some q [] f = refl
-none-some q (n ∷ ns) f = rw (f 0 (omega arith)) (none-some q ns (λ k l. f (suc k) (omega arith)))
-
--- one of them carries a phandle where its carrier is somewhere
-some-carrier : (p : ℕ) (before : List Node) (r : Position) → r ≡ carrier before p → some (carries p) before ≡ isSomewhere r
-some-carrier p before Nowhere e =
-    none-some (carries p) before (subst (IsFirst (length before) (carriesAt before p)) (sym e) (first-that (length before) (carriesAt before p)))
-some-carrier p before (At i) e = let c = carrier-carries before p (sym e) in some-one (carries p) before i (c .0) (c .1)
-
+-- one that an earlier feature carries
 repeated : {p : ℕ} (before : List Node) (v : Value) → isGiven v ≡ true → number v ≡ p → isRepeated before v ≡ some (carries p) before
 repeated before missing g e = absurd (false≢true g)
 repeated before (value bs) g e = rw e
@@ -141,7 +122,8 @@ module _ {v : Value} {c read : CellRead} (h : CellIs false v c) (l : c .number <
       fault-is : {n : ℕ} (x : Position) → IsFirst n (isAt phandles (read .number)) x → (before : List Node) → ArePhandles phandles before → n ≡ length before
           → _≡_ {A = ℕ} (pick (not (isSomewhere x)) 0 9) (phandleFault before v)
       fault-is x f before y k =
-          let s = some-carrier (read .number) before x (carrier-is phandles before y fits k f) in
+          let w : x ≡ carrier before (read .number) = carrier-is phandles before y fits k f in
+          let s : some (carries (read .number)) before ≡ isSomewhere x = some-carrier (read .number) before ∙ ap isSomewhere (sym w) in
           rw (neither .0, good-phandle v (λ y. z (is .number ∙ y)) small, repeated before v (sym (is .given) ∙ g) (sym (is .number)), s)
 
       pub phandle-again : {n i : ℕ} → IsFirst n (isAt phandles (read .number)) (At i) → {r : CellRead} → r ≡ noCell Repeated → PhandleIs phandles n v r

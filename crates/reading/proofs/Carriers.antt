@@ -9,14 +9,16 @@ use lib.Seq.{split-at, getD-take, length-take-le}
 use borrow.Author.Tests.{eqb-true, eq-eqb}
 use Rattle.strings.specs.Strings.{unended}
 use Rattle.names.specs.Names.{either}
-use Rattle.positions.specs.declared.Position.the-variants.{At}
+use Rattle.positions.specs.declared.Position.{Position}
+use Rattle.positions.specs.declared.Position.the-variants.{Nowhere, At}
+use Rattle.positions.proofs.BelowLaws.{no-way}
 use Rattle.positions.proofs.FirstLaws.{IsFirst, first-that}
 use Rattle.record.specs.declared.Property.the-variants.{Phandle}
 use Rattle.record.specs.declared.Cell.the-variants.{Given}
 use Rattle.nodes.specs.Nodes.{Node, node, nodeAt}
 use Rattle.nodes.specs.Values.{Value, missing, value, valueOf, number}
 use Rattle.reading.specs.Features.{some, isCarried, carries, isRepeated}
-use Rattle.reading.specs.Dependencies.{carriesAt, carrier}
+use Rattle.reading.specs.Dependencies.{carriesAt, carrier, isSomewhere}
 use Rattle.reading.specs.Resolved.{cellOf, cellIn}
 
 -- the node at an index
@@ -71,6 +73,26 @@ some-none q (n ∷ ns) (suc k) l h = go (q n) h (some-none q ns k (omega arith))
     go : (b : Bool) → either b (some q ns) ≡ false → (some q ns ≡ false → q (nodeAt ns k) ≡ false) → q (nodeAt ns k) ≡ false
     go true e f = absurd (false≢true (sym e))
     go false e f = f e
+
+some-one : (q : Node → Bool) (ns : List Node) (k : ℕ) → k < length ns → q (nodeAt ns k) ≡ true → some q ns ≡ true
+some-one q ns k l h = go (some q ns) refl
+  where
+    go : (b : Bool) → some q ns ≡ b → b ≡ true
+    go true e = refl
+    go false e = no-way (q (nodeAt ns k)) h (some-none q ns k l e)
+
+none-some : (q : Node → Bool) (ns : List Node) → ((k : ℕ) → k < length ns → q (nodeAt ns k) ≡ false) → some q ns ≡ false
+unfolding some nodeAt
+none-some q [] f = refl
+none-some q (n ∷ ns) f = rw (f 0 (omega arith)) (none-some q ns (λ k l. f (suc k) (omega arith)))
+
+-- one of them carries a phandle where its carrier is somewhere
+pub some-carrier : (p : ℕ) (ns : List Node) → some (carries p) ns ≡ isSomewhere (carrier ns p)
+some-carrier p ns = go (carrier ns p) (first-that (length ns) (carriesAt ns p))
+  where
+    go : (x : Position) → IsFirst (length ns) (carriesAt ns p) x → some (carries p) ns ≡ isSomewhere x
+    go Nowhere f = none-some (carries p) ns f
+    go (At i) f = some-one (carries p) ns i (f .0) (f .1)
 
 repeated-none : (p : ℕ) (before : List Node) (v : Value) (k : ℕ) → k < length before → isRepeated before v ≡ false → cellOf v ≡ Given p → carries p (nodeAt before k) ≡ false
 repeated-none p before missing k l h e = let z : _≡_ {A = ℕ} 0 1 = cc in absurd (omega arith)

@@ -14,10 +14,11 @@ use Rattle.nodes.specs.Nodes.{Node, nodeAt}
 use Rattle.nodes.specs.Values.{valueOf, cellsOf}
 use Rattle.reading.specs.Features.{carries}
 
--- which feature carries a phandle: that at a position, or none
+-- the feature at a position carries a phandle
 abbrev pub carriesAt : List Node → ℕ → ℕ → Bool
 carriesAt features p i = carries p (nodeAt features i)
 
+-- which feature carries a phandle: the first that does, or none
 abbrev pub carrier : List Node → ℕ → Position
 carrier features p = firstThat (length features) (carriesAt features p)
 

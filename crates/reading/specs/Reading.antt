@@ -59,7 +59,7 @@ recordWith container slots =
       slots = padded slotCount 0 slots;
     }
 
--- by what the dependencies of its features resolve to; no record of features where one of them does not
+-- by what the dependencies of all features resolve to; no features where they do not all resolve
 abbrev pub recordBy : Node → Resolution → Record
 recordBy container unknown = noFeatures
 recordBy container (found slots) = recordWith container slots
