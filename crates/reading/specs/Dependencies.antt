@@ -22,6 +22,7 @@ carriesAt features p i = carries p (nodeAt features i)
 abbrev pub carrier : List Node → ℕ → Position
 carrier features p = firstThat (length features) (carriesAt features p)
 
+-- there is one
 abbrev pub isSomewhere : Position → Bool
 isSomewhere Nowhere = false
 isSomewhere (At i) = true
@@ -46,7 +47,7 @@ abbrev pub onePosition : Position → Resolution
 onePosition Nowhere = unknown
 onePosition (At i) = found (i ∷ [])
 
--- two resolutions, one behind the other
+-- two resolutions, one behind the other; nothing where one of them is
 abbrev pub joined : Resolution → Resolution → Resolution
 joined unknown s = unknown
 joined (found is) unknown = unknown
@@ -62,6 +63,7 @@ abbrev pub slotRow : Resolution → Resolution
 slotRow unknown = unknown
 slotRow (found is) = found (padded mostDependencies 0 is)
 
+-- the rows of all features, one behind the other
 unfoldable pub slotsOf : List Node → List Node → Resolution
 slotsOf features [] = found []
 slotsOf features (n ∷ ns) = joined (slotRow (positionsOf features (cellsOf (valueOf n "dependencies")))) (slotsOf features ns)
