@@ -16,7 +16,7 @@ use Rattle.tokens.proofs.TokenList.{tokens-step, follow, view, Is, begins, ends
 use Rattle.walk.specs.Walk.{nameIn, treeTokens}
 use Rattle.nodes.specs.Nodes.{Node, node, nodeAt, nodesNamed, childrenAt}
 use Rattle.nodes.specs.Values.{value}
-use Rattle.nodes.specs.Places.{behindOf}
+use Rattle.nodes.specs.Places.{nextBehind}
 use Rattle.nodes.specs.Parts.{Lies, Alike}
 use Rattle.nodes.proofs.ValueLaws.{length-run}
 use Rattle.nodes.proofs.MoveLaws.{alike-behind}
@@ -25,7 +25,7 @@ use Rattle.nodes.proofs.MoveLaws.{alike-behind}
 pub record Located (tree : List ℕ) (b : Blocks) (n : Node) : Type 0 where
   pub place : n .at < b .end
   pub name : n .name ≡ textAt tree (n .at + 4) (b .end)
-  pub like : Alike (n .behind) (treeTokens tree b (behindOf (n .at + 4) (b .end) (textAt tree (n .at + 4) (b .end))))
+  pub like : Alike (n .behind) (treeTokens tree b (nextBehind (n .at + 4) (b .end) (textAt tree (n .at + 4) (b .end))))
 
 -- a run of bytes that lies in a tree
 run-lies : (tree : List ℕ) (from size : ℕ) → from + size ≤ length tree
