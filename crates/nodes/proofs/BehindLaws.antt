@@ -56,3 +56,8 @@ module _ (from stop : ℕ) where
   unfolding behindOf
   next-end (ended name) e = let z : _≡_ {A = ℕ} 0 1 = cc in absurd (omega arith)
   next-end unended e = refl
+
+-- the contents of a node whose name ends are somewhere
+pub ended-somewhere : (from : ℕ) {t : Text} {cs : List ℕ} → t ≡ ended cs → behindOf from t ≡ ContentsNowhere → ⊥
+unfolding behindOf
+ended-somewhere from {cs = cs} q e = let k = sym (ap (behindOf from) q) ∙ e in let z : _≡_ {A = ℕ} 0 1 = cc in absurd (omega arith)
