@@ -7,7 +7,7 @@ use lib.ListN.{length}
 use Rattle.refusal.specs.Refusal.{Placed}
 use Rattle.refusal.specs.Checks.{check, firstFault}
 use Rattle.cells.specs.Buffer.{written}
-use Rattle.unit.specs.Hex.{hexNumber, hexChecks, readHex, hexText, digitCount, fits, writeHex, afterHex}
+use Rattle.unit.specs.Hex.{HexNumber, someNumber, noNumber, hexNumber, hexChecks, readNumber, readHex, hexText, digitCount, fits, writeHex, afterHex}
 use Rattle.unit.specs.Unit.{readUnit, writeUnit, afterUnit}
 use Rattle.sizes.specs.Sizes.{sizeChecks, noSizes, sizeTable, sizes}
 use Rattle.segments.specs.Segments.{segmentChecks, tableOf, segmentPages}
@@ -33,7 +33,7 @@ use Rattle.chain.specs.Chain.{chainIn, chainChecks, chain, afterChain}
 use Rattle.words.specs.Words.{noWords, words}
 use Rattle.capi.specs.Answers.{formNumber}
 use Rattle.listing.specs.Listing.{lineAt, lineChecks, writeLine, afterLine}
-use Rattle.cases.specs.Ends.{Ends, PlacedEnds, answeredAt, refusedAt, Keeps}
+use Rattle.cases.specs.Ends.{Ends, refused, PlacedEnds, answeredAt, refusedAt, Keeps}
 use Rattle.cases.specs.Demand1.{zeroSet, zeroSeen, zeroMembers, zeroSegments, zeroBytes, Demand1Tree, Demand1Resolver, Demand1Value, Demand1Unit, Demand1Line, Demand1}
 use Rattle.cases.proofs.EndLaws.{checks-end, checks-keep, fault-one-of}
 use Rattle.cases.proofs.TableNumbers.{sizeNumbers, sizes-numbered, segmentNumbers, segments-numbered, attributeNumbers, attributes-numbered}
@@ -115,7 +115,11 @@ of-value value = record {
 module _ (text : List ℕ) (n : ℕ) (buffer : List ℕ) where
   hex-ends : (largest : ℕ) → Ends (12 ∷ 20 ∷ []) 0 (readHex largest text)
   unfolding readHex hexChecks
-  hex-ends largest = checks-end _ 0 (hexNumber text) (hexChecks largest text) refl
+  hex-ends largest = go (hexNumber text)
+    where
+      go : (x : HexNumber) → Ends (12 ∷ 20 ∷ []) 0 (readNumber largest text x)
+      go (someNumber n) = checks-end _ 0 n (hexChecks largest text n) refl
+      go noNumber = refused 20 refl
 
   write-ends : (at : ℕ) → Ends (18 ∷ []) 0 (writeHex n at (length buffer))
   unfolding writeHex

@@ -21,7 +21,7 @@ use Rattle.chain.specs.Layers.{layerAt, setAt, Falls, wayDown, AllBelow,
 use Rattle.chain.specs.declared.ChainTold.{ChainTold}
 use Rattle.chain.specs.declared.Layers.{Layers}
 use Rattle.chain.proofs.SweepLaws.{layer-sweeps, out-on}
-use Rattle.chain.proofs.WayLaws.{way-length, way-chain, chain-on}
+use Rattle.chain.proofs.WayLaws.{WayIs, way-chain, chain-on}
 
 -- no position below the count
 pub tells-past : {table p old : List ℕ} {n i : ℕ} {t : ChainTold} → n ≤ i → chainOutcome t ≡ refuse 0 16 → Tells table n p i old old t
@@ -53,17 +53,19 @@ module _ {table p : List ℕ} {n i : ℕ} {l : Layers} (few : n ≤ mostFeatures
     left-out : l .enabled ≡ false → enabled num dep (has p) n i ≡ false
     left-out e = out-on num dep n table shows few (has p) (l .held) i (out e) n (f .within)
 
-    way-is : l .enabled ≡ false → (way ≡ shortestChain num dep (has p) room n i) × AllBelow n way
+    way-is : l .enabled ≡ false → WayIs num dep n table shows few (has p) (setAt (l .sets)) (l .held) i
     way-is e =
-        let w = way-chain num dep n table shows few (has p) (setAt (l .sets)) (l .held) i low
-        (λ m q x b. ap (λ (s : List ℕ). has s x) (f .layers m q) ∙ layer m x b) (λ m q. sym (layer m i low) ∙ f .holds m q) (out e) in
-        (w .0 ∙ sym (chain-on num dep n table shows few (has p) (l .held) i (out e) n (f .within)), w .1)
+        way-chain num dep n table shows few (has p) (setAt (l .sets)) (l .held) i low
+        (λ m q x b. ap (λ (s : List ℕ). has s x) (f .layers m q) ∙ layer m x b) (λ m q. sym (layer m i low) ∙ f .holds m q) (out e)
+
+    chain-is : l .enabled ≡ false → way ≡ shortestChain num dep (has p) room n i
+    chain-is e = way-is e .chain ∙ sym (chain-on num dep n table shows few (has p) (l .held) i (out e) n (f .within))
 
     length-is : l .enabled ≡ false → l .held + 1 ≡ length (shortestChain num dep (has p) room n i)
-    length-is e = sym (way-length table (setAt (l .sets)) (l .held) i) ∙ ap length (way-is e .0)
+    length-is e = sym (way-is e .long) ∙ ap length (chain-is e)
 
   pub way-low : ShowsSome n table → l .enabled ≡ false → AllBelow mostFeatures (wayDown table (setAt (l .sets)) (l .held) i)
-  way-low s e = all-below n mostFeatures way few (way-is (s .num) (s .dep) (s .shows) e .1)
+  way-low s e = all-below n mostFeatures way few (way-is (s .num) (s .dep) (s .shows) e .low)
 
   module _ {old : List ℕ} {t : ChainTold} where
     pub tells-enabled : l .enabled ≡ true → chainOutcome t ≡ refuse 0 17 → Tells table n p i old old t
@@ -93,7 +95,7 @@ module _ {table p : List ℕ} {n i : ℕ} {l : Layers} (few : n ≤ mostFeatures
     unfolding graphChecks
     tells-chain e h w q = record {
       outcome = λ num dep shows. q ∙ ap (λ (m : ℕ). answer m) (length-is num dep shows e) ∙ sym (passes (refuse 0) _ _ (pass num dep shows));
-      bytes = λ num dep shows. w ∙ ap (written old 0) (way-is num dep shows e .0) ∙ sym (passes (λ (m : ℕ). old) _ _ (pass num dep shows));
+      bytes = λ num dep shows. w ∙ ap (written old 0) (chain-is num dep shows e) ∙ sym (passes (λ (m : ℕ). old) _ _ (pass num dep shows));
     }
       where
         pass : (num : ℕ → ℕ) (dep : ℕ → ℕ → ℕ) → Shows num dep n (rowAt table) → Passes (graphChecks num dep n p i (length old))

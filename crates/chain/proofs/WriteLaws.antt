@@ -7,12 +7,14 @@ use lib.ListN.{length, getD, set, drop, length-append}
 use lib.Seq.{drop-cons, set-at, append-snoc}
 use Rattle.cells.specs.Buffer.{written}
 use Rattle.cells.proofs.Buffer.{written-none, length-written}
+use Rattle.positions.specs.declared.Position.{Position}
+use Rattle.positions.specs.declared.Position.the-variants.{Nowhere, At}
 use Rattle.positions.specs.Below.{firstThat}
 use Rattle.positions.specs.Sets.{room, memberOutside}
 use Rattle.record.specs.Record.{mostFeatures}
 use Rattle.tables.specs.Tables.{rowOrNone}
 use Rattle.tables.proofs.RowLaws.{row-low}
-use Rattle.chain.specs.Layers.{nextBelow, wayDown, AllBelow}
+use Rattle.chain.specs.Layers.{nextBelow, onFrom, wayDown, AllBelow}
 
 -- one byte more behind what is written
 written-more : (old new : List ℕ) (b : ℕ) → length new < length old → set (written old 0 new) (length new) b ≡ written old 0 (new ++ b ∷ [])
@@ -24,7 +26,7 @@ written-more old new b h =
     (set-at new (getD old (length new) 0) (drop (suc (length new)) old) b (length new) refl ∙ sym (append-snoc new b (drop (suc (length new)) old)))
 
 module _ (table : List ℕ) (layers : ℕ → List ℕ) where
-  way-more : (k m i : ℕ) → k ≡ suc m → wayDown table layers k i ≡ i ∷ wayDown table layers m (nextBelow table (layers m) i)
+  way-more : (k m i : ℕ) → k ≡ suc m → wayDown table layers k i ≡ i ∷ onFrom (wayDown table layers m) (nextBelow table (layers m) i)
   unfolding wayDown
   way-more k m i e = ap (λ (x : ℕ). wayDown table layers x i) e
 
@@ -61,24 +63,34 @@ module _ {table : List ℕ} {layers : ℕ → List ℕ} {held i : ℕ} {old out 
       ap₂ (λ (l : List ℕ) (n : ℕ). set l n at) (w .holds) (sym (w .long))
       ∙ written-more old (w .front) at (omega (arith, w .steps, w .fits, w .long))
 
-  pub write-more : {row : List ℕ} {next : ℕ} → 0 < k → row ≡ rowOrNone table at → next ≡ firstThat room (memberOutside row (layers (k - 1)))
-      → Writing table layers held i old (set out place at) next (k - 1) (place + 1)
-  unfolding nextBelow
-  write-more {next = next} h r e =
-      let q : nextBelow table (layers (k - 1)) at ≡ next
-      = ap (λ (x : List ℕ). firstThat room (memberOutside x (layers (k - 1)))) (sym (r ∙ row-low table at write-low)) ∙ sym e in
-      let way : wayDown table layers k at ≡ at ∷ wayDown table layers (k - 1) next
-      = way-more table layers k (k - 1) at (omega arith) ∙ ap (λ (x : ℕ). at ∷ wayDown table layers (k - 1) x) q in
-      record {
-        steps = omega (arith, w .steps);
-        few = w .few;
-        fits = w .fits;
-        front = w .front ++ at ∷ [];
-        long = omega (arith, length-append (w .front) (at ∷ []), w .long);
-        holds = put;
-        same = append-snoc (w .front) at (wayDown table layers (k - 1) next) ∙ ap (λ (l : List ℕ). w .front ++ l) (sym way) ∙ w .same;
-        low = subst (AllBelow mostFeatures) way (w .low) .1;
-      }
+  -- what is behind the position at hand
+  module _ {row : List ℕ} {next : Position} (h : 0 < k) (r : row ≡ rowOrNone table at) (e : next ≡ firstThat room (memberOutside row (layers (k - 1)))) where
+    way-on : wayDown table layers k at ≡ at ∷ onFrom (wayDown table layers (k - 1)) next
+    unfolding nextBelow
+    way-on =
+        way-more table layers k (k - 1) at (omega arith)
+        ∙ ap (λ (x : Position). at ∷ onFrom (wayDown table layers (k - 1)) x)
+        (ap (λ (x : List ℕ). firstThat room (memberOutside x (layers (k - 1)))) (sym (r ∙ row-low table at write-low)) ∙ sym e)
+
+    pub write-more : {j : ℕ} → next ≡ At j → Writing table layers held i old (set out place at) j (k - 1) (place + 1)
+    write-more {j} q =
+        let way : wayDown table layers k at ≡ at ∷ wayDown table layers (k - 1) j
+        = way-on ∙ ap (λ (x : Position). at ∷ onFrom (wayDown table layers (k - 1)) x) q in
+        record {
+          steps = omega (arith, w .steps);
+          few = w .few;
+          fits = w .fits;
+          front = w .front ++ at ∷ [];
+          long = omega (arith, length-append (w .front) (at ∷ []), w .long);
+          holds = put;
+          same = append-snoc (w .front) at (wayDown table layers (k - 1) j) ∙ ap (λ (l : List ℕ). w .front ++ l) (sym way) ∙ w .same;
+          low = subst (AllBelow mostFeatures) way (w .low) .1;
+        }
+
+    pub write-stops : next ≡ Nowhere → set out place at ≡ written old 0 (wayDown table layers held i)
+    write-stops q =
+        put ∙ ap (written old 0)
+        (ap (λ (l : List ℕ). w .front ++ l) (sym (way-on ∙ ap (λ (x : Position). at ∷ onFrom (wayDown table layers (k - 1)) x) q)) ∙ w .same)
 
   pub write-ends : k ≤ 0 → set out place at ≡ written old 0 (wayDown table layers held i)
   unfolding wayDown

@@ -8,6 +8,8 @@ use lib.ListN.{length, getD}
 use Rattle.refusal.specs.Refusal.{answer, refuse}
 use Rattle.refusal.specs.Checks.{Check, check, firstFault}
 use Rattle.cells.specs.Buffer.{written}
+use Rattle.positions.specs.declared.Position.{Position}
+use Rattle.positions.specs.declared.Position.the-variants.{Nowhere, At}
 use Rattle.positions.specs.declared.Set.{Set}
 use Rattle.positions.specs.Below.{firstThat}
 use Rattle.positions.specs.Sets.{setWords, room, has, collect, isSubset, memberOutside}
@@ -43,14 +45,19 @@ pub record Falls (table : List ℕ) (n : ℕ) (permitted : List ℕ) (i : ℕ) (
   pub out : l .enabled ≡ false → has (layerAt table n permitted (l .held)) i ≡ false
   pub stays : l .enabled ≡ true → has (layerAt table n permitted n) i ≡ true
 
--- "each next is a dependency of the one before": the smallest in row i that is not in a layer
-unfoldable pub nextBelow : List ℕ → List ℕ → ℕ → ℕ
+-- "each next is a dependency of the one before": the smallest in row i that is not in a layer; nowhere where there is none
+unfoldable pub nextBelow : List ℕ → List ℕ → ℕ → Position
 nextBelow table layer i = firstThat room (memberOutside (rowAt table i) layer)
 
--- from i, which k layers hold, down to a position that none holds
+-- the positions from one on; none from nowhere
+abbrev pub onFrom : (ℕ → List ℕ) → Position → List ℕ
+onFrom f Nowhere = []
+onFrom f (At i) = f i
+
+-- from i, which k layers hold, down to a position that none holds; it ends where there is no next
 unfoldable pub wayDown : List ℕ → (ℕ → List ℕ) → ℕ → ℕ → List ℕ
 wayDown table layers zero i = i ∷ []
-wayDown table layers (suc k) i = i ∷ wayDown table layers k (nextBelow table (layers k) i)
+wayDown table layers (suc k) i = i ∷ onFrom (wayDown table layers k) (nextBelow table (layers k) i)
 
 -- every position of a list is below n
 abbrev pub AllBelow : ℕ → List ℕ → Type 0

@@ -1,5 +1,6 @@
 // The shortest chain of dependencies from a feature left out to an unpermitted one.
 use permitted::Grants;
+use positions::Position;
 use positions::Set;
 use record::MOST_FEATURES;
 use record::Record;
@@ -73,7 +74,8 @@ fn fall(table: &[u64; TABLE_WORDS], n: usize, p: Set, i: usize) -> Layers
 }
 
 // The way from position `i` down the layers that hold it, into the front of a lent buffer: the lowest dependency outside the last of them,
-// from there the lowest outside the one before, and so on. A round a layer: each reads a row and compares it, two steps a word.
+// from there the lowest outside the one before, and so on; it ends where there is none. A round a layer: each reads a row and compares it, two
+// steps a word.
 fn write_chain(table: &[u64; TABLE_WORDS], l: Layers, i: usize, out: &mut [u8])
     requires { ⌜ (l .held ≤ mostFeatures)
         × (l .held < length (now out))
@@ -90,7 +92,10 @@ fn write_chain(table: &[u64; TABLE_WORDS], l: Layers, i: usize, out: &mut [u8])
         place += 1;
         k -= 1;
         let s = l.sets[k];
-        at = sets::lowest_outside(tables::row(table, at), s);
+        match sets::lowest_outside(tables::row(table, at), s) {
+            Position::At(j) => at = j,
+            Position::Nowhere => return,
+        }
     }
     out[place] = at as u8;
 }

@@ -1,22 +1,21 @@
--- The digit of a value, as the code makes it. Assumes nothing.
-use Prim.Native.Nat.{ℕ, _+_, _-_, _<_, _≤_}
-use mathlib.Core.Path.{_≡_, refl, sym, ap, _∙_}
+-- The digit of a number, as the code makes it. Assumes nothing.
+use Prim.Native.Nat.{ℕ, _+_, _-_, _%_, _<_, _≤_}
+use mathlib.Core.Path.{_≡_, refl, ap, _∙_}
 use native.Mathlib.Omega.{arith}
-use lib.ListN.{List·getD-eq-default}
-use Rattle.characters.specs.Characters.{run, bytes, hexDigit}
+use lib.ListN.{getD}
+use Rattle.characters.specs.Characters.{lowerDigits, hexDigit, run}
 use Rattle.characters.proofs.Table.{agree}
 
-pub digit-low : (v : ℕ) → v < 10 → 48 + v ≡ hexDigit v
-unfolding run hexDigit
-digit-low v h = agree (λ (k : ℕ). 48 + k) hexDigit 10 refl v h
+abbrev digitAt : ℕ → ℕ
+digitAt v = getD lowerDigits v 0
 
-pub digit-high : (v : ℕ) → 10 ≤ v → v < 16 → 87 + v ≡ hexDigit v
+pub digit-low : (n : ℕ) → n % 16 < 10 → 48 + n % 16 ≡ hexDigit n
 unfolding run hexDigit
-digit-high v l h =
-    let e : 87 + v ≡ 97 + (v - 10) = omega arith in
-    let f : 10 + (v - 10) ≡ v = omega arith in
-    e ∙ agree (λ (k : ℕ). 97 + k) (λ (k : ℕ). hexDigit (10 + k)) 6 refl (v - 10) (omega arith) ∙ ap hexDigit f
+digit-low n h = agree (λ (k : ℕ). 48 + k) digitAt 10 refl (n % 16) h
 
-pub digit-past : (v : ℕ) → 16 ≤ v → 0 ≡ hexDigit v
-unfolding hexDigit
-digit-past v h = sym (List·getD-eq-default (bytes "0123456789abcdef") 0 h)
+pub digit-high : (n : ℕ) → 10 ≤ n % 16 → 87 + n % 16 ≡ hexDigit n
+unfolding run hexDigit
+digit-high n l =
+    let e : 87 + n % 16 ≡ 97 + (n % 16 - 10) = omega arith in
+    let f : 10 + (n % 16 - 10) ≡ n % 16 = omega arith in
+    e ∙ agree (λ (k : ℕ). 97 + k) (λ (k : ℕ). digitAt (10 + k)) 6 refl (n % 16 - 10) (omega arith) ∙ ap digitAt f

@@ -1,25 +1,24 @@
 -- The characters of names (document 01, "The walk") and of hexadecimal numbers ("CPU properties and unit text").
-use Prim.Native.Nat.{ℕ, zero, suc, _+_, _*_, _/_, _%_, min}
+use Prim.Native.Nat.{ℕ, zero, suc, _+_, _*_, _/_, _%_}
 use Prim.Native.String.{String}
 use Prim.Native.String as text
 use Prim.Native.Char.{code}
-use mathlib.Core.Bool.{Bool, true, false}
+use mathlib.Core.Bool.{Bool, true, false, _||_, cond}
 use mathlib.Core.List.{List, [], _∷_, _++_}
-use lib.Dec.{eqb, ltb}
-use lib.ListN.{length, getD}
+use lib.Dec.{eqb}
+use lib.ListN.{getD}
+use Rattle.characters.specs.declared.HexValue.{HexValue}
+use Rattle.characters.specs.declared.HexValue.the-variants.{Digit, None}
 
 -- the bytes of an ASCII text
 abbrev pub bytes : String → List ℕ
 bytes text.[] = []
 bytes (text._∷_ c cs) = code c ∷ bytes cs
 
--- the place of the first element that is x, counted from 0; the list's length where there is none
-abbrev pub placeOf : ℕ → List ℕ → ℕ
-placeOf x [] = 0
-placeOf x (y ∷ ys) = elim (eqb x y) [ true ↦ 0 | false ↦ suc (placeOf x ys) ]
-
+-- a character is one of a list
 abbrev pub among : ℕ → List ℕ → Bool
-among x ys = ltb (placeOf x ys) (length ys)
+among x [] = false
+among x (y ∷ ys) = eqb x y || among x ys
 
 abbrev pub digitsAndLetters : List ℕ
 digitsAndLetters =
@@ -33,13 +32,34 @@ isNodeCharacter b = among b (digitsAndLetters ++ bytes ",._+-")
 unfoldable pub isPropertyCharacter : ℕ → Bool
 isPropertyCharacter b = among b (digitsAndLetters ++ bytes ",._+-" ++ bytes "?#")
 
--- "hex, either case": a digit's value is its place in either of these; 16 for any other character
-unfoldable pub hexValue : ℕ → ℕ
-hexValue b = min (placeOf b (bytes "0123456789abcdef")) (placeOf b (bytes "0123456789ABCDEF"))
+abbrev pub lowerDigits : List ℕ
+lowerDigits = bytes "0123456789abcdef"
 
--- "written lower-case": the hex digit of a value below 16; zero for any other
+abbrev pub upperDigits : List ℕ
+upperDigits = bytes "0123456789ABCDEF"
+
+-- the value of a character that stands in a list of digits: its place, counted from `v`
+abbrev pub valueIn : ℕ → List ℕ → ℕ → HexValue
+valueIn v [] b = None
+valueIn v (d ∷ ds) b = cond (eqb b d) (Digit v) (valueIn (suc v) ds b)
+
+-- the first of two values, or the second where there is no first
+abbrev pub orElse : HexValue → HexValue → HexValue
+orElse (Digit v) x = Digit v
+orElse None x = x
+
+-- "hex, either case": a digit's value is its place in either of these; no other character has one
+unfoldable pub hexValue : ℕ → HexValue
+hexValue b = orElse (valueIn 0 lowerDigits b) (valueIn 0 upperDigits b)
+
+-- "written lower-case": the hex digit of a number's last four bits
 unfoldable pub hexDigit : ℕ → ℕ
-hexDigit v = getD (bytes "0123456789abcdef") v 0
+hexDigit n = getD lowerDigits (n % 16) 0
+
+-- the low five bits of a table's entry: a hex digit's value, 16 for any other character
+abbrev pub hexEntry : HexValue → ℕ
+hexEntry (Digit v) = v
+hexEntry None = 16
 
 abbrev pub oneIf : Bool → ℕ
 oneIf true = 1
@@ -47,7 +67,7 @@ oneIf false = 0
 
 -- one entry of the table: the hex value, and 32 and 64 for the two classes
 unfoldable pub entryOf : ℕ → ℕ
-entryOf b = hexValue b + 32 * oneIf (isNodeCharacter b) + 64 * oneIf (isPropertyCharacter b)
+entryOf b = hexEntry (hexValue b) + 32 * oneIf (isNodeCharacter b) + 64 * oneIf (isPropertyCharacter b)
 
 -- f at n numbers from i on
 unfoldable pub run : (ℕ → ℕ) → ℕ → ℕ → List ℕ

@@ -2,6 +2,12 @@
 ghost use mathlib.Core.Path.{_≡_};
 ghost use Rattle.characters.specs.Characters.{entryOf, characterTable, isNodeEntry, isPropertyEntry, hexValue, hexDigit};
 
+// What a character is as a hex digit: a value below 16, or none.
+pub enum HexValue {
+    Digit(u8),
+    None,
+}
+
 // Document 01: "one constant table of 256 entries, one for each byte". An entry is the hex value (16: no
 // hex digit), and 32 for a node name's character, and 64 for a property name's.
 const TABLE: [u8; 256] = [
@@ -291,20 +297,22 @@ pub fn is_property_entry(entry: u8) -> bool
     entry / 64 == 1
 }
 
-// The value of a hex digit of either case; 16 for any other character.
-pub fn hex_value(b: u8) -> u8
+// The value of a hex digit of either case; none for any other character.
+pub fn hex_value(b: u8) -> HexValue
     ensures { λ r. ⌜ r ≡ hexValue b ⌝ }
 {
-    entry(b) % 32
+    let value = entry(b) % 32;
+    if value < 16 {
+        return HexValue::Digit(value);
+    }
+    HexValue::None
 }
 
-// The lower-case hex digit of a value below 16; zero for any other.
-pub fn hex_digit(value: u64) -> u8
-    ensures { λ r. ⌜ r ≡ hexDigit value ⌝ }
+// The lower-case hex digit of a number's last four bits.
+pub fn hex_digit(number: u64) -> u8
+    ensures { λ r. ⌜ r ≡ hexDigit number ⌝ }
 {
-    if 15 < value {
-        return 0;
-    }
+    let value = number % 16;
     if value < 10 {
         (48 + value) as u8
     } else {

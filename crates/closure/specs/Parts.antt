@@ -1,10 +1,12 @@
 -- What the functions behind the public ones promise.
-use Prim.Native.Nat.{ℕ, _≤_, _<_}
+use Prim.Native.Nat.{ℕ, _<_}
 use mathlib.Core.Path.{_≡_}
 use mathlib.Core.Bool.{Bool, true, false, _&&_}
 use mathlib.Core.Logic.{_⊎_}
 use mathlib.Core.List.{List}
 use lib.Dec.{ltb}
+use Rattle.positions.specs.declared.Position.{Position}
+use Rattle.positions.specs.declared.Position.the-variants.{Nowhere, At}
 use Rattle.positions.specs.Below.{every}
 use Rattle.positions.specs.Sets.{room, has, withMember, withoutMember, isSubset}
 use Rattle.tables.specs.Slots.{slotNumber, slotOf}
@@ -59,7 +61,7 @@ pub record Passes (held : ℕ → List ℕ → Bool) (n : ℕ) (old : List ℕ) 
   pub done : isSubset old (r .members .words) ≡ true → ClosedSet held n old
   pub needy : Needy held n (r .members .words) (r .needy .words)
 
--- a member of a set, or a number past its words where it has none
-pub record Picks (s : List ℕ) (r : ℕ) : Type 0 where
-  pub member : r < room → has s r ≡ true
-  pub none : room ≤ r → (i : ℕ) → i < room → has s i ≡ false
+-- a member of a set; nowhere, where it has none
+unfoldable pub Picks : List ℕ → Position → Type 0
+Picks s (At i) = (i < room) × (has s i ≡ true)
+Picks s Nowhere = (i : ℕ) → i < room → has s i ≡ false

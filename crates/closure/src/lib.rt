@@ -1,4 +1,5 @@
 // The largest closed part of a set of positions: passes over the slots until none takes a position out.
+use positions::Position;
 use positions::Set;
 use positions::WORDS;
 use record::MOST_DEPENDENCIES;
@@ -86,8 +87,8 @@ fn first_pass(slots: &[u16; SLOTS], counts: &[u8; MOST_FEATURES], n: usize, s: S
     x
 }
 
-// The highest member of a set; 64 for each word where there is none: one step a word.
-fn highest(s: Set) -> usize
+// The highest member of a set, or nowhere: one step a word.
+fn highest(s: Set) -> Position
     ensures { λ r. ⌜ Picks (s .words) r ⌝ }
 {
     let mut w: usize = WORDS;
@@ -95,14 +96,15 @@ fn highest(s: Set) -> usize
         w -= 1;
         let word = s.words[w];
         if word != 0 {
-            return 64 * w + (63 - u64::leading_zeros(word) as usize);
+            let i = 64 * w + (63 - u64::leading_zeros(word) as usize);
+            return Position::At(i);
         }
     }
-    64 * WORDS
+    Position::Nowhere
 }
 
-// The lowest member of a set, or the highest.
-fn outermost(s: Set, lowest: bool) -> usize
+// The lowest member of a set or the highest, or nowhere.
+fn outermost(s: Set, lowest: bool) -> Position
     ensures { λ r. ⌜ Picks (s .words) r ⌝ }
 {
     if lowest {
@@ -129,12 +131,13 @@ fn next_pass(
         needy: positions::empty(),
     };
     loop {
-        let i = outermost(todo, upward);
-        if i >= MOST_FEATURES {
-            return y;
+        match outermost(todo, upward) {
+            Position::Nowhere => return y,
+            Position::At(i) => {
+                todo = positions::remove(todo, i);
+                y = tested(slots, i, tables::used(counts, i), y);
+            }
         }
-        todo = positions::remove(todo, i);
-        y = tested(slots, i, tables::used(counts, i), y);
     }
 }
 

@@ -13,10 +13,11 @@ use Rattle.tokens.specs.declared.Step.{Step}
 use Rattle.tokens.specs.Steps.{pick, padded}
 use Rattle.tokens.specs.Tokens.{Token, beginNode, endNode, property, nop, end, fault, afterName, afterBegin}
 use Rattle.tokens.proofs.TokenList.{tokens-step, follow, view, Is, begins, ends, holds, skips, stops, cut, unknown, none}
+use Rattle.positions.proofs.BelowLaws.{no-way}
 use Rattle.walk.specs.Walk.{nameIn, treeTokens}
 use Rattle.nodes.specs.Nodes.{Node, node, nodeAt, nodesNamed, childrenAt}
 use Rattle.nodes.specs.Values.{value}
-use Rattle.nodes.specs.Places.{behindOf}
+use Rattle.nodes.specs.Places.{nextBehind}
 use Rattle.nodes.specs.Parts.{Lies, Alike}
 use Rattle.nodes.proofs.ValueLaws.{length-run}
 use Rattle.nodes.proofs.MoveLaws.{alike-behind}
@@ -25,7 +26,7 @@ use Rattle.nodes.proofs.MoveLaws.{alike-behind}
 pub record Located (tree : List ℕ) (b : Blocks) (n : Node) : Type 0 where
   pub place : n .at < b .end
   pub name : n .name ≡ textAt tree (n .at + 4) (b .end)
-  pub like : Alike (n .behind) (treeTokens tree b (behindOf (n .at + 4) (b .end) (textAt tree (n .at + 4) (b .end))))
+  pub like : Alike (n .behind) (treeTokens tree b (nextBehind (n .at + 4) (b .end) (textAt tree (n .at + 4) (b .end))))
 
 -- a run of bytes that lies in a tree
 run-lies : (tree : List ℕ) (from size : ℕ) → from + size ≤ length tree
@@ -33,6 +34,30 @@ run-lies : (tree : List ℕ) (from size : ℕ) → from + size ≤ length tree
 run-lies tree from size h =
     let e = length-run tree from size h in
     record { bytes = ap (λ (k : ℕ). value (take k (drop from tree))) (sym e); within = omega arith }
+
+-- a name that is the same as some characters ends, and so does that of each node of a name
+text-ends : (name : List ℕ) (t : Text) → sameText t (ended name) ≡ true → (cs : List ℕ) × (t ≡ ended cs)
+unfolding sameText
+text-ends name (ended cs) e = (cs, refl)
+text-ends name unended e = no-way false e refl
+
+pub named-ends : (name : List ℕ) (ts : List Token) (i : ℕ) → i < length (nodesNamed name ts)
+    → (cs : List ℕ) × (nodeAt (nodesNamed name ts) i .name ≡ ended cs)
+unfolding nodesNamed nodeAt
+named-ends name [] i l = absurd (omega arith)
+named-ends name (beginNode at t ∷ ts) i l = go (sameText t (ended name)) refl i l (named-ends name ts)
+  where
+    go : (same : Bool) → sameText t (ended name) ≡ same → (i : ℕ) → i < length (pick same (node at t ts ∷ nodesNamed name ts) (nodesNamed name ts))
+        → ((i : ℕ) → i < length (nodesNamed name ts) → (cs : List ℕ) × (nodeAt (nodesNamed name ts) i .name ≡ ended cs))
+        → (cs : List ℕ) × (nodeAt (pick same (node at t ts ∷ nodesNamed name ts) (nodesNamed name ts)) i .name ≡ ended cs)
+    go true e zero l f = text-ends name t e
+    go true e (suc i) l f = f i (omega arith)
+    go false e i l f = f i l
+named-ends name (endNode at ∷ ts) i l = named-ends name ts i l
+named-ends name (property at t bytes ∷ ts) i l = named-ends name ts i l
+named-ends name (nop at ∷ ts) i l = named-ends name ts i l
+named-ends name (end at ∷ ts) i l = named-ends name ts i l
+named-ends name (fault at ∷ ts) i l = named-ends name ts i l
 
 module _ (tree : List ℕ) (b : Blocks) where
   -- each begin token of a list, and each property's value where the blocks lie in the tree

@@ -16,7 +16,7 @@ use Rattle.nodes.specs.declared.Move.the-variants.{Child, Past}
 use Rattle.nodes.specs.declared.NodePlace.{NodePlace}
 use Rattle.nodes.specs.Nodes.{Node, node, childrenAt}
 use Rattle.nodes.specs.Values.{missing, valueIn}
-use Rattle.nodes.specs.Places.{behindOf}
+use Rattle.nodes.specs.Places.{nextBehind}
 use Rattle.nodes.specs.Parts.{Alike, Moved, child, past}
 use Rattle.nodes.proofs.ValueLaws.{tokens-past}
 
@@ -54,7 +54,7 @@ children-end t ts = refl
 
 module _ (tree : List ℕ) (b : Blocks) where
   -- what is behind a begin token, by its name
-  pub alike-behind : (from : ℕ) (t : Text) → Alike (afterBegin (treeTokens tree b) from t) (treeTokens tree b (behindOf from (b .end) t))
+  pub alike-behind : (from : ℕ) (t : Text) → Alike (afterBegin (treeTokens tree b) from t) (treeTokens tree b (nextBehind from (b .end) t))
   unfolding valueIn childrenAt
   alike-behind from (ended name) = record { values = λ n. refl; nodes = λ depth. refl }
   alike-behind from unended =
@@ -63,7 +63,7 @@ module _ (tree : List ℕ) (b : Blocks) where
         nodes = λ depth. sym (children-past tree (b .end) (nameIn tree b) (b .end) (omega arith) depth);
       }
 
-  further : (at : ℕ) (t : Text) → at < b .end → at < behindOf (at + 4) (b .end) t
+  further : (at : ℕ) (t : Text) → at < b .end → at < nextBehind (at + 4) (b .end) t
   further at (ended name) h = omega arith
   further at unended h = h
 
@@ -80,7 +80,7 @@ module _ (tree : List ℕ) (b : Blocks) where
     none-left : childrenAt depth (treeTokens tree b at) ≡ [] → Moved tree b depth at (Past depth (b .end))
     none-left e = past (e ∙ sym (children-past tree (b .end) (nameIn tree b) (b .end) (omega arith) depth)) h (omega arith)
 
-    module _ {t next : ℕ} {c : Cursor} (e : stepAt tree (b .end) at ≡ BeginNode t c) (q : next ≡ behindOf (c .at) (b .end) (textAt tree (c .at) (b .end))) where
+    module _ {t next : ℕ} {c : Cursor} (e : stepAt tree (b .end) at ≡ BeginNode t c) (q : next ≡ nextBehind (c .at) (b .end) (textAt tree (c .at) (b .end))) where
       on : at < next
       on = rw (q, begins (seen tree (b .end) at e) .named) (further at (textAt tree (at + 4) (b .end)) h)
 
@@ -95,7 +95,7 @@ module _ (tree : List ℕ) (b : Blocks) where
           child {n = node t name (afterBegin (treeTokens tree b) (c .at) name)}
           (rw (z, tokens-step tree (b .end) (nameIn tree b) at e) (children-child t name _)
           ∙ ap (λ (ns : List Node). node t name (afterBegin (treeTokens tree b) (c .at) name) ∷ ns) (like .nodes 1))
-          (ap (λ (x : ℕ). place t x (behindOf x (b .end) name)) k ∙ ap (place t (c .at)) (sym q))
+          (ap (λ (x : ℕ). place t x (nextBehind x (b .end) name)) k ∙ ap (place t (c .at)) (sym q))
           on
 
       pub move-deeper : (depth ≡ 0 → ⊥) → Moved tree b depth at (Past (depth + 1) next)

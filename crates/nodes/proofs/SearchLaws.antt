@@ -9,9 +9,11 @@ use lib.ListN.{getD}
 use Rattle.strings.specs.Strings.{textAt}
 use Rattle.names.specs.Names.{sameText}
 use Rattle.nodes.specs.declared.NodePlace.{NodePlace}
+use Rattle.positions.specs.declared.Position.{Position}
+use Rattle.positions.specs.declared.Position.the-variants.{Nowhere, At}
 use Rattle.positions.specs.Below.{some}
 use Rattle.positions.proofs.BelowLaws.{no-way, some-at, some-is}
-use Rattle.positions.proofs.FirstLaws.{first-passes, first-before, first-within, first-is}
+use Rattle.positions.proofs.FirstLaws.{IsFirst, first-that, first-is}
 use Rattle.nodes.specs.Places.{noPlace, sameNames, firstRepeated}
 use Rattle.nodes.specs.Parts.{FirstRepeated}
 
@@ -38,23 +40,25 @@ none-passes n p h j l = go (p j) refl
 
 module _ (same : ℕ → ℕ → Bool) (n : ℕ) where
   -- what the definition says, both ways
+  first-repeats : (r : Position) → IsFirst n (λ (i : ℕ). some i (same i)) r → FirstRepeated same n r
+  first-repeats Nowhere f = λ i j l k. none-passes i (same i) (f i l) j k
+  first-repeats (At r) f =
+      let j = some-is r (same r) (f .1) in
+      (f .0, λ i k l m. none-passes i (same i) (f .2 i l) k m, (j .0, (j .1, j .2)))
+
+  repeats-first : (r : Position) → FirstRepeated same n r → IsFirst n (λ (i : ℕ). some i (same i)) r
+  repeats-first Nowhere f = λ i l. none-pass i (same i) (λ j k. f i j l k)
+  repeats-first (At r) f =
+      let j = f .2 in
+      (f .0, some-at r (same r) (j .0) (j .1 .0) (j .1 .1), λ i l. none-pass i (same i) (λ k m. f .1 i k l m))
+
   pub is-repeated : FirstRepeated same n (firstRepeated same n)
   unfolding firstRepeated
-  is-repeated =
-      let p : ℕ → Bool = λ i. some i (same i) in
-      let r = firstRepeated same n in
-      record {
-        within = first-within n p;
-        before = λ i j l k. none-passes i (same i) (first-before n p i l) j k;
-        there = λ l. let j = some-is r (same r) (first-passes n p l) in (j .0, (j .1, j .2));
-      }
+  is-repeated = first-repeats (firstRepeated same n) (first-that n (λ (i : ℕ). some i (same i)))
 
-  pub repeated-is : {r : ℕ} → FirstRepeated same n r → r ≡ firstRepeated same n
+  repeated-is : (r : Position) → FirstRepeated same n r → r ≡ firstRepeated same n
   unfolding firstRepeated
-  repeated-is {r} f =
-      first-is n (λ i. some i (same i)) r (f .within)
-      (λ l. let j = f .there l in some-at r (same r) (j .0) (j .1 .0) (j .1 .1))
-      (λ i l. none-pass i (same i) (λ j k. f .before i j l k))
+  repeated-is r f = first-is n (λ (i : ℕ). some i (same i)) (repeats-first r f)
 
   -- no position below i is the same as an earlier one
   pub record Searched (i : ℕ) : Type 0 where
@@ -88,9 +92,8 @@ module _ (same : ℕ → ℕ → Bool) (n : ℕ) where
       go k l m o (yes p) = c .before k l p o
       go k l m o (no p) = let q : k ≡ i = omega arith in rw q (c .other l (omega arith))
 
-  pub search-found : {i : ℕ} (j : ℕ) → Compared i j → j < i → same i j ≡ true → FirstRepeated same n i
-  search-found j c h e = record { within = omega (arith, c .row); before = c .before; there = λ l. (j, (h, e)) }
+  pub search-found : {i : ℕ} (j : ℕ) → Compared i j → j < i → same i j ≡ true → At i ≡ firstRepeated same n
+  search-found {i} j c h e = repeated-is (At i) (c .row, c .before, (j, (h, e)))
 
-  pub search-none : {i r : ℕ} → Searched i → n ≤ i → r ≡ n → FirstRepeated same n r
-  search-none {i} {r} s h e =
-      record { within = omega arith; before = λ k j l m. s .before k j (omega arith) m; there = λ l. absurd (omega arith) }
+  pub search-none : {i : ℕ} → Searched i → n ≤ i → Nowhere ≡ firstRepeated same n
+  search-none s h = repeated-is Nowhere (λ k j l m. s .before k j (omega arith) m)

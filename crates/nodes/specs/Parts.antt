@@ -8,6 +8,8 @@ use Rattle.strings.specs.Strings.{textAt}
 use Rattle.header.specs.declared.Blocks.{Blocks}
 use Rattle.tokens.specs.Tokens.{Token}
 use Rattle.walk.specs.Walk.{treeTokens}
+use Rattle.positions.specs.declared.Position.{Position}
+use Rattle.positions.specs.declared.Position.the-variants.{Nowhere, At as PositionAt}
 use Rattle.record.specs.Record.{mostFeatures}
 use Rattle.nodes.specs.declared.Held.{Held}
 use Rattle.nodes.specs.declared.Held.the-variants.{Missing, At}
@@ -59,8 +61,7 @@ pub record Gathers (tree : List ℕ) (b : Blocks) (all : List Node) (r : ChildPl
   pub count : r .more ≡ false → r .count ≡ length all
   pub nodes : r .more ≡ false → AreNodes tree b all (r .places)
 
--- the first position that is the same as an earlier one; n where there is none below n
-pub record FirstRepeated (same : ℕ → ℕ → Bool) (n r : ℕ) : Type 0 where
-  pub within : r ≤ n
-  pub before : (i j : ℕ) → i < r → j < i → same i j ≡ false
-  pub there : r < n → (j : ℕ) × ((j < r) × (same r j ≡ true))
+-- the first position below n that is the same as an earlier one; nowhere, where none is
+abbrev pub FirstRepeated : (ℕ → ℕ → Bool) → ℕ → Position → Type 0
+FirstRepeated same n Nowhere = (i j : ℕ) → i < n → j < i → same i j ≡ false
+FirstRepeated same n (PositionAt r) = (r < n) × ((i j : ℕ) → i < r → j < i → same i j ≡ false) × ((j : ℕ) × ((j < r) × (same r j ≡ true)))

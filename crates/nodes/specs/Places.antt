@@ -11,10 +11,13 @@ use Rattle.header.specs.declared.Blocks.{Blocks}
 use Rattle.tokens.specs.Steps.{pick}
 use Rattle.tokens.specs.Tokens.{Token, beginNode, endNode, property, nop, end, fault, afterName}
 use Rattle.walk.specs.Walk.{treeTokens}
+use Rattle.positions.specs.declared.Position.{Position}
 use Rattle.positions.specs.Below.{some, firstThat}
 use Rattle.record.specs.Record.{mostFeatures}
 use Rattle.nodes.specs.declared.Held.{Held}
 use Rattle.nodes.specs.declared.Held.the-variants.{Missing, At}
+use Rattle.nodes.specs.declared.Contents.{Contents}
+use Rattle.nodes.specs.declared.Contents.the-variants.{At as ContentsAt, Nowhere}
 use Rattle.nodes.specs.declared.NodePlace.{NodePlace}
 use Rattle.nodes.specs.declared.ChildPlaces.{ChildPlaces}
 use Rattle.nodes.specs.Nodes.{Node, nodeAt}
@@ -33,17 +36,23 @@ heldIn n (endNode at ∷ ts) = Missing
 heldIn n (end at ∷ ts) = Missing
 heldIn n (fault at ∷ ts) = Missing
 
--- where the tokens behind a begin token begin, in a block that ends at `stop`
-abbrev pub behindOf : ℕ → ℕ → Text → ℕ
-behindOf from stop (ended name) = afterName from name
-behindOf from stop unended = stop
+-- where a node's contents begin: behind its name, which begins at `from`
+unfoldable pub behindOf : ℕ → Text → Contents
+behindOf from (ended name) = ContentsAt (afterName from name)
+behindOf from unended = Nowhere
+
+-- where to go on behind a begin token, in a block that ends at `stop`: at `stop`, where no token is left, if its name does not end
+abbrev pub nextBehind : ℕ → ℕ → Text → ℕ
+nextBehind from stop (ended name) = afterName from name
+nextBehind from stop unended = stop
 
 abbrev pub noPlace : NodePlace
 noPlace = record { at = 0; name = 0; behind = 0 }
 
--- a node's place: its begin token's offset, its name behind it, and the tokens behind its name
+-- a node's place: its begin token's offset, its name behind it, and its contents behind its name; if its name does not end, these stand at
+-- `stop`, where no token is left
 abbrev pub placeOf : ℕ → Node → NodePlace
-placeOf stop n = record { at = n .at; name = n .at + 4; behind = behindOf (n .at + 4) stop (n .name) }
+placeOf stop n = record { at = n .at; name = n .at + 4; behind = nextBehind (n .at + 4) stop (n .name) }
 
 -- the places of the first 64 of some nodes, whether there are more, and where the next begins; unused places are zero
 unfoldable pub childPlaces : ℕ → List Node → ChildPlaces
@@ -58,6 +67,6 @@ childPlaces stop ns = record {
 unfoldable pub sameNames : List ℕ → ℕ → List NodePlace → ℕ → ℕ → Bool
 sameNames tree stop ps i j = sameText (textAt tree (getD ps j noPlace .name) stop) (textAt tree (getD ps i noPlace .name) stop)
 
--- the first position below n that is the same as an earlier one; n where there is none
-unfoldable pub firstRepeated : (ℕ → ℕ → Bool) → ℕ → ℕ
+-- the first position below n that is the same as an earlier one; nowhere where there is none
+unfoldable pub firstRepeated : (ℕ → ℕ → Bool) → ℕ → Position
 firstRepeated same n = firstThat n (λ (i : ℕ). some i (same i))

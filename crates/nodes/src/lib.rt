@@ -1,5 +1,6 @@
 // Nodes in a tree: the value of a property, the direct children, their names. Every public function takes any tree, blocks and place.
 use header::Blocks;
+use positions::Position;
 use properties::StringsBlock;
 use record::MOST_FEATURES;
 use strings::Ending;
@@ -12,7 +13,15 @@ ghost use Rattle.strings.specs.Strings.{textAt};
 ghost use Rattle.record.specs.Record.{mostFeatures};
 ghost use Rattle.walk.specs.Walk.{treeTokens};
 ghost use Rattle.nodes.specs.Nodes.{childrenAt};
-ghost use Rattle.nodes.specs.Places.{tokensIn, heldIn, behindOf, childPlaces, sameNames, firstRepeated};
+ghost use Rattle.nodes.specs.Places.{
+  tokensIn,
+  heldIn,
+  behindOf,
+  nextBehind,
+  childPlaces,
+  sameNames,
+  firstRepeated,
+};
 ghost use Rattle.nodes.specs.Parts.{Moved};
 
 // What a node has of a property: nothing, or where its value begins and how many bytes it has.
@@ -28,7 +37,14 @@ enum Move {
     Past { depth: usize, next: usize },
 }
 
-// A node: its begin token's offset, and where its name and the tokens behind it begin.
+// Where a node's contents begin, the tokens behind its begin token: nowhere, where its name does not end.
+pub enum Contents {
+    At(usize),
+    Nowhere,
+}
+
+// A node: its begin token's offset, and where its name and its contents begin; if the name does not end, the contents' place is the
+// block's end, where no token is left.
 pub struct NodePlace {
     pub at: usize,
     pub name: usize,
@@ -96,14 +112,27 @@ pub fn value_of(tree: &[u8], b: Blocks, first: usize, name: &[u8]) -> Held
     value_within(tree, b, first, name)
 }
 
-// Where the tokens behind a begin token begin, if its name begins at `from`; the block's end, if the name does not end.
-pub fn behind(tree: &[u8], end: usize, from: usize) -> usize
-    ensures { λ r. ⌜ r ≡ behindOf from end (textAt (now (tree .entry)) from end) ⌝ }
+// Where the contents of a node begin whose name begins at `from`, in a block that ends at `end`.
+pub fn behind(tree: &[u8], end: usize, from: usize) -> Contents
+    ensures { λ r. ⌜ r ≡ behindOf from (textAt (now (tree .entry)) from end) ⌝ }
 {
     let ending = strings::text_end(tree, from, end);
     match ending {
-        Ending::At(zero) => from + ((zero - from) / 4 + 1) * 4,
-        Ending::Nowhere => end,
+        Ending::At(zero) => {
+            let at = from + ((zero - from) / 4 + 1) * 4;
+            Contents::At(at)
+        }
+        Ending::Nowhere => Contents::Nowhere,
+    }
+}
+
+// What is behind the begin token of a node whose name begins at `from`: the block's end, if the name does not end.
+fn next_behind(tree: &[u8], end: usize, from: usize) -> usize
+    ensures { λ r. ⌜ r ≡ nextBehind from end (textAt (now (tree .entry)) from end) ⌝ }
+{
+    match behind(tree, end, from) {
+        Contents::At(at) => at,
+        Contents::Nowhere => end,
     }
 }
 
@@ -116,7 +145,7 @@ fn move_at(tree: &[u8], b: Blocks, depth: usize, at: usize) -> Move
     let step = here.step(tree, end);
     match step {
         Step::BeginNode { at: t, name } => {
-            let next = behind(tree, end, name.at);
+            let next = next_behind(tree, end, name.at);
             if depth == 0 {
                 return Move::Child {
                     at: t,
@@ -196,9 +225,9 @@ pub fn child_places(tree: &[u8], b: Blocks, first: usize) -> ChildPlaces
     fs
 }
 
-// Document 01: "the first earlier feature with the same name ends the search". The first position whose node has the name of an earlier
-// one; the count where there is none, and 64 where the count is above that.
-pub fn repeated_name(tree: &[u8], b: Blocks, fs: ChildPlaces) -> usize
+// Document 01: "the first earlier feature with the same name ends the search". The first position, of at most 64, whose node has the name
+// of an earlier one.
+pub fn repeated_name(tree: &[u8], b: Blocks, fs: ChildPlaces) -> Position
     ensures { λ r.
         ⌜ r ≡ firstRepeated
         (sameNames (now (tree .entry)) (b .end) (fs .places))
@@ -206,7 +235,7 @@ pub fn repeated_name(tree: &[u8], b: Blocks, fs: ChildPlaces) -> usize
 {
     let end = b.end;
     let count = cells::least(fs.count, MOST_FEATURES);
-    let mut found = count;
+    let mut found = Position::Nowhere;
     let mut i: usize = 0;
     'search: while i < count {
         let p = fs.places[i];
@@ -214,7 +243,7 @@ pub fn repeated_name(tree: &[u8], b: Blocks, fs: ChildPlaces) -> usize
         while j < i {
             let q = fs.places[j];
             if matching::same_name(tree, q.name, p.name, end) {
-                found = i;
+                found = Position::At(i);
                 break 'search;
             }
             j += 1;

@@ -2,13 +2,15 @@
 use mathlib.Core.Path.{_≡_, sym, subst, _∙_}
 use mathlib.Core.Bool.{true, false}
 use mathlib.Core.List.{List, [], _++_}
-use Prim.Native.Nat.{ℕ, _<_, _≤_, min}
+use Prim.Native.Nat.{ℕ, _<_, min}
 use native.Mathlib.Omega.{arith}
 use borrow.Author.Tests.{le-leb, lt-leb}
 use lib.ListN.{length, getD}
 use Rattle.refusal.specs.Refusal.{Fault, Placed, placed, refuseAt, fault}
 use Rattle.refusal.specs.Checks.{Check}
 use Rattle.header.specs.declared.Blocks.{Blocks}
+use Rattle.positions.specs.declared.Position.{Position}
+use Rattle.positions.specs.declared.Position.the-variants.{Nowhere, At}
 use Rattle.record.specs.declared.Record.{Record}
 use Rattle.record.specs.Record.{mostFeatures, noFeatures}
 use Rattle.walk.specs.Walk.{treeTokens}
@@ -43,9 +45,6 @@ module _ {tree : List ℕ} {b : Blocks} {isa first : ℕ} {c : Node} (w : Opens 
       (fail-left (countChecks (children c)) (inOrder nameChecks [] (children c) ++ last)
       (fail-here 8 (nodeAt (children c) mostFeatures .at) (lt-leb (length (children c)) mostFeatures (f .many m)))))
 
-  pub within : fs .count ≤ mostFeatures
-  within = f .within
-
   module _ (m : fs .more ≡ false) where
     places : AtPlaces tree b fs (children c)
     places = record { count = f .count m; few = f .few m; places = f .nodes m; low = λ i l. w .low i }
@@ -56,27 +55,32 @@ module _ {tree : List ℕ} {b : Blocks} {isa first : ℕ} {c : Node} (w : Opens 
     pub contained : Contains tree b isa fs c
     contained = record { nodes = places; isa = w .isa }
 
-    module _ {later : ℕ} (k : later ≡ firstRepeated (sameNames tree (b .end) (fs .places)) (min (fs .count) mostFeatures)) where
+    module _ {later : Position} (k : later ≡ firstRepeated (sameNames tree (b .end) (fs .places)) (min (fs .count) mostFeatures)) where
       r : FirstRepeated (sameNames tree (b .end) (fs .places)) (fs .count) later
       r =
           let n : min (fs .count) mostFeatures ≡ fs .count = omega (arith, f .within) in
           rw (k, n) (is-repeated (sameNames tree (b .end) (fs .places)) (fs .count))
 
-      pub name-repeated : later < fs .count → {x : Placed Record} → x ≡ refuseAt noFeatures (fault 9 (getD (fs .places) later noPlace .at))
-          → x ≡ readChildren c
-      unfolding readChildren
-      name-repeated l q =
-          q
-          ∙ sym
-          (fail-decides (refuseAt noFeatures) _ (placed (recordOf c))
-          (fail-right (countChecks (children c)) (inOrder nameChecks [] (children c) ++ last) count-holds
-          (fail-left (inOrder nameChecks [] (children c)) last (names-repeat tree b fs (children c) places later l r))))
+      module _ {i : ℕ} (l : later ≡ At i) where
+        repeats : FirstRepeated (sameNames tree (b .end) (fs .places)) (fs .count) (At i)
+        repeats = subst (FirstRepeated (sameNames tree (b .end) (fs .places)) (fs .count)) l r
 
-      pub all-read : fs .count ≤ later → {x : Placed Record} → x ≡ readFeatures c → x ≡ readChildren c
+        pub repeated-low : i < mostFeatures
+        repeated-low = omega (arith, repeats .0, f .within)
+
+        pub name-repeated : {x : Placed Record} → x ≡ refuseAt noFeatures (fault 9 (getD (fs .places) i noPlace .at)) → x ≡ readChildren c
+        unfolding readChildren
+        name-repeated q =
+            q
+            ∙ sym
+            (fail-decides (refuseAt noFeatures) _ (placed (recordOf c))
+            (fail-right (countChecks (children c)) (inOrder nameChecks [] (children c) ++ last) count-holds
+            (fail-left (inOrder nameChecks [] (children c)) last (names-repeat tree b fs (children c) places i repeats))))
+
+      pub all-read : later ≡ Nowhere → {x : Placed Record} → x ≡ readFeatures c → x ≡ readChildren c
       unfolding readFeatures readChildren
       all-read l q =
-          let n : later ≡ fs .count = omega (arith, r .within) in
-          let d = names-differ tree b fs (children c) places (rw n at r) in
+          let d = names-differ tree b fs (children c) places (subst (FirstRepeated (sameNames tree (b .end) (fs .places)) (fs .count)) l r) in
           q
           ∙ sym (hold-skips (refuseAt noFeatures) (inOrder nameChecks [] (children c)) last (placed (recordOf c)) d)
           ∙ sym (hold-skips (refuseAt noFeatures) (countChecks (children c)) (inOrder nameChecks [] (children c) ++ last) (placed (recordOf c)) count-holds)

@@ -20,14 +20,16 @@ use Rattle.reading.specs.Features.{inOrder, nameChecks, featureChecks}
 use Rattle.reading.specs.Dependencies.{carrierChecks}
 use Rattle.reading.specs.Reading.{containersOf, containerChecks, containerProperties, countChecks, readChecks, recordOf, readAccepted}
 use Rattle.reading.specs.Ends.{AllHold, FirstFailing}
-use Rattle.nodes.specs.Places.{behindOf}
+use Rattle.nodes.specs.declared.Contents.the-variants.{Nowhere}
+use Rattle.nodes.specs.Places.{behindOf, nextBehind}
 use Rattle.nodes.specs.Parts.{Alike}
 use Rattle.reader.specs.Parts.{ContainerIs, ReadsContainer, Opens, readChildren}
 use Rattle.walk.specs.Walk.{nameIn, treeTokens}
 use Rattle.walk.specs.Containers.{containerName}
 use Rattle.reading.proofs.Places.{node-within, children-within, containers-within}
 use Rattle.reading.proofs.Containers.{offsets}
-use Rattle.nodes.proofs.Located.{Located, named-located}
+use Rattle.nodes.proofs.BehindLaws.{ended-somewhere}
+use Rattle.nodes.proofs.Located.{Located, named-ends, named-located}
 use Rattle.reading.proofs.CheckLaws.{fail-left, fail-right, fail-here, hold-skips, fail-decides}
 use Rattle.reading.proofs.WalkedLaws.{Walked}
 
@@ -106,7 +108,13 @@ module _ {tree : List ℕ} {b : Blocks} {found : Containers} (w : Walked tree b 
     pub first-within : (found .first < b .end) × (b .end ≤ largestTree)
     first-within = (omega (arith, located .place, first-at), omega (arith, w .lies .end, w .lies .small))
 
-    module _ {first : ℕ} (e : first ≡ behindOf (found .first + 4) (b .end) (textAt tree (found .first + 4) (b .end))) where
+    -- its contents are somewhere, since its name ends
+    pub contents-found : behindOf (found .first + 4) (textAt tree (found .first + 4) (b .end)) ≡ Nowhere → ⊥
+    contents-found e =
+        let n = named-ends containerName (treeTokens tree b (b .start)) 0 (omega (arith, once)) in
+        ended-somewhere (found .first + 4) (ap (λ (at : ℕ). textAt tree (at + 4) (b .end)) (sym first-at) ∙ sym (located .name) ∙ n .1) e
+
+    module _ {first : ℕ} (e : first ≡ nextBehind (found .first + 4) (b .end) (textAt tree (found .first + 4) (b .end))) where
       alike : Alike (container tree b .behind) (treeTokens tree b first)
       alike = rw (e, ← first-at) (located .like)
 

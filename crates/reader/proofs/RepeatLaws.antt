@@ -8,6 +8,7 @@ use lib.ListN.{length, take, getD}
 use lib.Seq.{length-take-le}
 use Rattle.header.specs.declared.Blocks.{Blocks}
 use Rattle.names.specs.Names.{sameText}
+use Rattle.positions.specs.declared.Position.the-variants.{Nowhere, At}
 use Rattle.positions.proofs.BelowLaws.{no-way}
 use Rattle.nodes.specs.declared.ChildPlaces.{ChildPlaces}
 use Rattle.nodes.specs.Nodes.{Node, nodeAt}
@@ -51,15 +52,15 @@ module _ (tree : List ℕ) (b : Blocks) (fs : ChildPlaces) (nodes : List Node) (
       let e = none-pass (named i) (take i nodes) (λ j k. named-is i j l (omega arith) ∙ h j (omega arith)) in
       (ap not e, tt)
 
-  pub names-differ : FirstRepeated (sameNames tree (b .end) (fs .places)) (fs .count) (fs .count) → AllHold (inOrder nameChecks [] nodes)
-  names-differ f = order-holds nameChecks nodes (λ i l. name-new i l (λ j k. f .before i j (omega (arith, at .count)) k))
+  pub names-differ : FirstRepeated (sameNames tree (b .end) (fs .places)) (fs .count) Nowhere → AllHold (inOrder nameChecks [] nodes)
+  names-differ f = order-holds nameChecks nodes (λ i l. name-new i l (λ j k. f i j (omega (arith, at .count)) k))
 
-  pub names-repeat : (r : ℕ) → r < fs .count → FirstRepeated (sameNames tree (b .end) (fs .places)) (fs .count) r
+  pub names-repeat : (r : ℕ) → FirstRepeated (sameNames tree (b .end) (fs .places)) (fs .count) (At r)
       → FirstFailing (inOrder nameChecks [] nodes) 9 (getD (fs .places) r noPlace .at)
-  names-repeat r l f =
-      let h : r < length nodes = omega (arith, at .count) in
-      let j = f .there l in
+  names-repeat r f =
+      let h : r < length nodes = omega (arith, f .0, at .count) in
+      let j = f .2 in
       let n = length-take-le r nodes (omega arith) in
       let e = one-passes (named r) (take r nodes) (j .0) (omega (arith, j .1 .0)) (named-is r (j .0) h (j .1 .0) ∙ j .1 .1) in
       rw (sym (at .places r h .offset))
-      (order-fails nameChecks nodes r h (λ i k. name-new i (omega arith) (λ m o. f .before i m k o)) (fail-here 9 (nodeAt nodes r .at) (ap not e)))
+      (order-fails nameChecks nodes r h (λ i k. name-new i (omega arith) (λ m o. f .1 i m k o)) (fail-here 9 (nodeAt nodes r .at) (ap not e)))

@@ -11,11 +11,13 @@ use feature::no_feature;
 use features::read_features;
 use header::Blocks;
 use nodes::ChildPlaces;
+use nodes::Contents;
 use nodes::Held;
 use nodes::behind;
 use nodes::child_places;
 use nodes::repeated_name;
 use nodes::value_of;
+use positions::Position;
 use record::MOST_FEATURES;
 use record::Record;
 use record::SLOTS;
@@ -155,12 +157,13 @@ fn read_children(tree: &[u8], b: Blocks, isa: u32, first: usize) -> Read
     if fs.more {
         return refused(Refusal::TooMany, fs.over);
     }
-    let later = repeated_name(tree, b, fs);
-    if later < fs.count {
-        let p = fs.places[later];
-        return refused(Refusal::Repeated, p.at);
+    match repeated_name(tree, b, fs) {
+        Position::At(later) => {
+            let p = fs.places[later];
+            refused(Refusal::Repeated, p.at)
+        }
+        Position::Nowhere => read_places(tree, b, isa, fs),
     }
-    read_places(tree, b, isa, fs)
 }
 
 // The record of an accepted tree, with the containers that the walk noted.
@@ -174,13 +177,18 @@ fn read_container(tree: &[u8], b: Blocks, found: Containers) -> Read
     if found.count != 1 {
         return refused(Refusal::Repeated, found.second);
     }
-    let first = behind(tree, b.end, found.first + 4);
-    let isa = container_isa(tree, b, first);
-    let refusal = isa.refusal;
-    if refusal::number(refusal) != 0 {
-        return refused(refusal, found.first);
+    match behind(tree, b.end, found.first + 4) {
+        Contents::At(first) => {
+            let isa = container_isa(tree, b, first);
+            let refusal = isa.refusal;
+            if refusal::number(refusal) != 0 {
+                return refused(refusal, found.first);
+            }
+            read_children(tree, b, isa.number, first)
+        }
+        // Never so: the walk noted the container by its name, which ends.
+        Contents::Nowhere => refused(Refusal::Name, found.first),
     }
-    read_children(tree, b, isa.number, first)
 }
 
 // The feature record of a tree.

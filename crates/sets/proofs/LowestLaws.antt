@@ -9,6 +9,7 @@ use native.Mathlib.Omega.{arith}
 use lib.Bits.{bitAnd, and-le-l}
 use lib.Count.{trailingZeros, under, trailing-le}
 use lib.ListN.{getD}
+use Rattle.positions.specs.declared.Position.the-variants.{Nowhere, At}
 use Rattle.positions.specs.Below.{firstThat}
 use Rattle.positions.specs.Bits.{notZero, bit}
 use Rattle.positions.specs.Sets.{setWords, room, memberOutside}
@@ -56,8 +57,8 @@ pub record NoneOutside (a b : List ℕ) (w : ℕ) : Type 0 where
 pub none-begins : (a b : List ℕ) → NoneOutside a b 0
 none-begins a b = record { within = omega arith; none = λ j h. absurd (omega arith) }
 
-pub lowest-none : {a b : List ℕ} {w : ℕ} → NoneOutside a b w → setWords ≤ w → 64 * setWords ≡ firstThat room (memberOutside a b)
-lowest-none {a} {b} n h = first-is room (memberOutside a b) (64 * setWords) (omega arith) (λ l. absurd (omega arith)) (λ j l. n .none j (omega arith))
+pub lowest-none : {a b : List ℕ} {w : ℕ} → NoneOutside a b w → setWords ≤ w → Nowhere ≡ firstThat room (memberOutside a b)
+lowest-none {a} {b} n h = first-is room (memberOutside a b) {r = Nowhere} (λ j l. n .none j (omega arith))
 
 module _ (a b : List ℕ) (gb : WordList setWords b) where
   outside-bit : (v s : ℕ) → s < 64 → memberOutside a b (64 * v + s) ≡ bit (wordOutside a b v) s
@@ -78,12 +79,12 @@ module _ (a b : List ℕ) (gb : WordList setWords b) where
       go j l (no m) = outside-at w j (omega arith) (omega arith) ∙ ap (λ (x : ℕ). bit x (j - 64 * w)) e ∙ bit-none (j - 64 * w)
 
   pub lowest-found : {w : ℕ} → WordList setWords a → NoneOutside a b w → w < setWords → (wordOutside a b w ≡ 0 → ⊥)
-      → 64 * w + trailingZeros 64 (wordOutside a b w) ≡ firstThat room (memberOutside a b)
+      → At (64 * w + trailingZeros 64 (wordOutside a b w)) ≡ firstThat room (memberOutside a b)
   lowest-found {w} ga n h ne =
       let x = wordOutside a b w in
       let lt = low-lt x (lt-of-le-of-lt (and-le-l (getD a w 0) (2 ^ 64 - 1 - getD b w 0)) (ga .small w)) ne in
-      first-is room (memberOutside a b) (64 * w + trailingZeros 64 x) (omega arith) (λ l. outside-bit w (trailingZeros 64 x) lt ∙ low-is 64 x lt)
-      (λ j l. before j l (decLt j (64 * w)))
+      first-is room (memberOutside a b) {r = At (64 * w + trailingZeros 64 x)}
+      (omega arith, outside-bit w (trailingZeros 64 x) lt ∙ low-is 64 x lt, λ j l. before j l (decLt j (64 * w)))
     where
       before : (j : ℕ) → j < 64 * w + trailingZeros 64 (wordOutside a b w) → Dec (j < 64 * w) → memberOutside a b j ≡ false
       before j l (yes m) = n .none j m

@@ -1,4 +1,5 @@
 // Two sets of positions compared and joined, word by word.
+use positions::Position;
 use positions::Set;
 use positions::WORDS;
 ghost use mathlib.Core.Path.{_≡_};
@@ -45,17 +46,18 @@ pub fn union(a: Set, b: Set) -> Set
     t
 }
 
-// The smallest position that is a member of the first set and not of the second; 64 for each word where there is none: one step a word.
-pub fn lowest_outside(a: Set, b: Set) -> usize
+// The smallest position that is a member of the first set and not of the second, or nowhere: one step a word.
+pub fn lowest_outside(a: Set, b: Set) -> Position
     ensures { λ r. ⌜ r ≡ firstThat room (memberOutside (a .words) (b .words)) ⌝ }
 {
     let mut w: usize = 0;
     while w < WORDS {
         let outside = a.words[w] & !b.words[w];
         if outside != 0 {
-            return 64 * w + u64::trailing_zeros(outside) as usize;
+            let i = 64 * w + u64::trailing_zeros(outside) as usize;
+            return Position::At(i);
         }
         w += 1;
     }
-    64 * WORDS
+    Position::Nowhere
 }

@@ -2,7 +2,7 @@
 use mathlib.Core.Path.{_≡_, refl, sym, ap, _∙_}
 use mathlib.Core.Bool.{Bool, true, false}
 use mathlib.Core.List.{List, [], _∷_, _++_, append-assoc, append-nil}
-use Prim.Native.Nat.{ℕ, zero, suc, _+_, _-_, _*_, _^_, _/_, _%_, _<_, _≤_}
+use Prim.Native.Nat.{ℕ, zero, suc, _+_, _-_, _*_, _^_, _/_, _<_, _≤_}
 use native.Mathlib.Omega.{arith}
 use borrow.Author.Tests.{ltb-true, ltb-false, le-leb, lt-leb}
 use lib.Dec.{ltb}
@@ -11,7 +11,8 @@ use lib.Pow.{pow-add}
 use native.Mathlib.Decide.{decLt}
 use Rattle.cells.specs.Buffer.{written}
 use Rattle.cells.proofs.Buffer.{written-none, written-before, length-written}
-use Rattle.unit.specs.Hex.{hexDigit, digitsOf, hexText, digitCount, afterHex}
+use Rattle.characters.specs.Characters.{hexDigit}
+use Rattle.unit.specs.Hex.{digitsOf, hexText, digitCount, afterHex}
 
 -- the bound on their number does not show
 fuel : (f g n : ℕ) → n < f → n < g → digitsOf f n ≡ digitsOf g n
@@ -22,7 +23,7 @@ fuel (suc f) (suc g) n h k = go (ltb n 16) refl (fuel f g (n / 16))
   where
     go : (b : Bool) → ltb n 16 ≡ b → (n / 16 < f → n / 16 < g → digitsOf f (n / 16) ≡ digitsOf g (n / 16)) → digitsOf (suc f) n ≡ digitsOf (suc g) n
     go true e r = rw (e, digitsOf)
-    go false e r = let l : 16 ≤ n = ltb-false n 16 e in rw (e, digitsOf) (ap (λ (ds : List ℕ). ds ++ hexDigit (n % 16) ∷ []) (r (omega arith) (omega arith)))
+    go false e r = let l : 16 ≤ n = ltb-false n 16 e in rw (e, digitsOf) (ap (λ (ds : List ℕ). ds ++ hexDigit n ∷ []) (r (omega arith) (omega arith)))
 
 -- the digits before the last: none for a number below 16
 abbrev pub left : ℕ → List ℕ
@@ -34,24 +35,23 @@ left-text zero h = absurd (omega arith)
 left-text (suc n) h = refl
 
 -- a text ends in its lowest digit
-pub text-last : (n : ℕ) → hexText n ≡ left (n / 16) ++ hexDigit (n % 16) ∷ []
+pub text-last : (n : ℕ) → hexText n ≡ left (n / 16) ++ hexDigit n ∷ []
 unfolding hexText digitsOf
 text-last n = go (ltb n 16) refl
   where
-    go : (b : Bool) → ltb n 16 ≡ b → digitsOf (suc n) n ≡ left (n / 16) ++ hexDigit (n % 16) ∷ []
+    go : (b : Bool) → ltb n 16 ≡ b → digitsOf (suc n) n ≡ left (n / 16) ++ hexDigit n ∷ []
     go true e =
         let l : n < 16 = ltb-true n 16 e in
         let q : n / 16 ≡ 0 = omega arith in
-        let r : n % 16 ≡ n = omega arith in
-        rw (e, digitsOf) (rw (q, r))
+        rw (e, digitsOf) (rw q)
     go false e =
         let l : 16 ≤ n = ltb-false n 16 e in
-        rw (e, digitsOf) (ap (λ (ds : List ℕ). ds ++ hexDigit (n % 16) ∷ []) (fuel n (suc (n / 16)) (n / 16) (omega arith) (omega arith) ∙ sym (left-text (n / 16) (omega arith))))
+        rw (e, digitsOf) (ap (λ (ds : List ℕ). ds ++ hexDigit n ∷ []) (fuel n (suc (n / 16)) (n / 16) (omega arith) (omega arith) ∙ sym (left-text (n / 16) (omega arith))))
 
 -- as many digits as are before the last, and the last
 pub count-last : (n : ℕ) → digitCount n ≡ length (left (n / 16)) + 1
 unfolding digitCount
-count-last n = ap length (text-last n) ∙ length-append (left (n / 16)) (hexDigit (n % 16) ∷ [])
+count-last n = ap length (text-last n) ∙ length-append (left (n / 16)) (hexDigit n ∷ [])
 
 pub count-one : (n : ℕ) → n / 16 ≡ 0 → digitCount n ≡ 1
 count-one n z = count-last n ∙ rw z
@@ -103,18 +103,18 @@ writing-none number at count old e h = record {
 }
 
 module _ {number at : ℕ} {old buffer : List ℕ} {rest place : ℕ} (g : Writing number at old buffer rest place) where
-  pub writing-more : {b : ℕ} → b ≡ hexDigit (rest % 16) → at < place → Writing number at old (set buffer (place - 1) b) (rest / 16) (place - 1)
+  pub writing-more : {b : ℕ} → b ≡ hexDigit rest → at < place → Writing number at old (set buffer (place - 1) b) (rest / 16) (place - 1)
   writing-more {b} e h =
-      let f : g .front ≡ left (rest / 16) ++ hexDigit (rest % 16) ∷ [] = g .next h ∙ text-last rest in
-      let l : length (g .front) ≡ length (left (rest / 16)) + 1 = ap length f ∙ length-append (left (rest / 16)) (hexDigit (rest % 16) ∷ []) in
+      let f : g .front ≡ left (rest / 16) ++ hexDigit rest ∷ [] = g .next h ∙ text-last rest in
+      let l : length (g .front) ≡ length (left (rest / 16)) + 1 = ap length f ∙ length-append (left (rest / 16)) (hexDigit rest ∷ []) in
       let p : place ≡ place - 1 + 1 = omega arith in
       record {
         front = left (rest / 16);
-        back = hexDigit (rest % 16) ∷ g .back;
-        joined = sym (append-assoc (left (rest / 16)) (hexDigit (rest % 16) ∷ []) (g .back)) ∙ ap (λ (ds : List ℕ). ds ++ g .back) (sym f) ∙ g .joined;
+        back = hexDigit rest ∷ g .back;
+        joined = sym (append-assoc (left (rest / 16)) (hexDigit rest ∷ []) (g .back)) ∙ ap (λ (ds : List ℕ). ds ++ g .back) (sym f) ∙ g .joined;
         reached = omega (arith, g .reached);
         next = λ k. some (rest / 16) (omega (arith, g .reached));
-        stands = rw (g .stands, e) (ap (λ (q : ℕ). set (written old q (g .back)) (place - 1) (hexDigit (rest % 16))) p ∙ written-before old (place - 1) (hexDigit (rest % 16)) (g .back) (omega (arith, g .room)));
+        stands = rw (g .stands, e) (ap (λ (q : ℕ). set (written old q (g .back)) (place - 1) (hexDigit rest)) p ∙ written-before old (place - 1) (hexDigit rest) (g .back) (omega (arith, g .room)));
         room = omega (arith, g .room);
       }
     where

@@ -1,70 +1,64 @@
 -- Reading what is written, over the largest number allowed. Assumes nothing.
-use mathlib.Core.Path.{_≡_, refl, sym, ap, subst, subst₂, ap₂, _∙_}
-use mathlib.Core.Bool.{Bool, true, false}
+use mathlib.Core.Path.{_≡_, refl, sym, ap, subst, ap₂, _∙_}
 use mathlib.Core.List.{List, [], _∷_, _++_}
 use Prim.Native.Nat.{ℕ, zero, suc, _+_, _*_, _-_, _^_, _/_, _%_, _<_, _≤_}
 use native.Mathlib.Omega.{arith}
 use native.Mathlib.Decide.{decLt}
 use native.Mathlib.Nat.{mul-le-mul-right}
-use borrow.Author.Tests.{lt-ltb, le-ltb}
-use lib.Dec.{T, ltb, leb→le, ltb→lt}
-use lib.ListN.{length}
+use lib.Dec.{ltb→lt}
+use lib.ListN.{length, getD}
 use lib.Pow.{pow-add}
 use Rattle.refusal.specs.Refusal.{Outcome, answer, refuse}
-use Rattle.refusal.proofs.Checks.{Passes, answered, passes, tests}
-use Rattle.characters.specs.Characters.{hexValue}
-use Rattle.characters.proofs.Table.{hex-of-digit}
-use Rattle.unit.specs.Hex.{allHex, hexAfter, hexNumber, mostDigits, hexChecks, readHex, hexDigit, hexText, digitCount}
+use Rattle.refusal.proofs.Checks.{Passes, answered, passes}
+use Rattle.characters.specs.declared.HexValue.{HexValue}
+use Rattle.characters.specs.declared.HexValue.the-variants.{Digit, None}
+use Rattle.characters.specs.Characters.{lowerDigits, hexValue, hexDigit}
+use Rattle.characters.proofs.Table.{hex-below, hex-of-digit}
+use Rattle.unit.specs.Hex.{HexNumber, someNumber, noNumber, hexAfter, hexNumber, hexChecks, readNumber, readHex, hexText, digitCount}
 use Rattle.unit.specs.Shortest.{LowerCase, none, digit, Shortest}
 use Rattle.unit.proofs.Digits.{left, left-text, text-last, count-last, count-least, count-within}
+use Rattle.unit.proofs.Reading.{read-number}
 
 -- one digit more at the end
-number-snoc : (high : ℕ) (cs : List ℕ) (c : ℕ) → hexAfter high (cs ++ c ∷ []) ≡ hexAfter high cs * 16 + hexValue c
+number-snoc : (high : ℕ) (cs : List ℕ) (c : ℕ) {n v : ℕ} → hexAfter high cs ≡ someNumber n → hexValue c ≡ Digit v
+    → hexAfter high (cs ++ c ∷ []) ≡ someNumber (n * 16 + v)
 unfolding hexAfter
-number-snoc high [] c = refl
-number-snoc high (x ∷ cs) c = number-snoc (high * 16 + hexValue x) cs c
-
-hex-snoc : (cs : List ℕ) (c : ℕ) → T (allHex cs) → hexValue c < 16 → T (allHex (cs ++ c ∷ []))
-unfolding allHex
-hex-snoc [] c h k = rw (lt-ltb (hexValue c) 16 k, allHex) tt
-hex-snoc (x ∷ cs) c h k = go (ltb (hexValue x) 16) h (λ t. hex-snoc cs c t k)
+number-snoc high [] c {n} {v} e k = let q : high ≡ n = cc in rw (k, hexAfter) (ap (λ (x : ℕ). someNumber (x * 16 + v)) q)
+number-snoc high (x ∷ cs) c {n} {v} e k = go (hexValue x) e (λ u f. number-snoc (high * 16 + u) cs c f k)
   where
-    go : (b : Bool) → T (elim b as (λ _. Bool) [ true ↦ allHex cs | false ↦ false ]) → (T (allHex cs) → T (allHex (cs ++ c ∷ []))) → T (elim b as (λ _. Bool) [ true ↦ allHex (cs ++ c ∷ []) | false ↦ false ])
-    go true t f = f t
-    go false t f = absurd t
+    go : (y : HexValue) → (elim y as (λ _. HexNumber) [ Digit u ↦ hexAfter (high * 16 + u) cs | None ↦ noNumber ]) ≡ someNumber n
+        → ((u : ℕ) → hexAfter (high * 16 + u) cs ≡ someNumber n → hexAfter (high * 16 + u) (cs ++ c ∷ []) ≡ someNumber (n * 16 + v))
+        → (elim y as (λ _. HexNumber) [ Digit u ↦ hexAfter (high * 16 + u) (cs ++ c ∷ []) | None ↦ noNumber ]) ≡ someNumber (n * 16 + v)
+    go (Digit u) e f = f u e
+    go None e f = let z : _≡_ {A = ℕ} 0 1 = cc in absurd (omega arith)
 
-lower-snoc : {cs : List ℕ} (v : ℕ) → v < 16 → LowerCase cs → LowerCase (cs ++ hexDigit v ∷ [])
-lower-snoc v h none = digit v h none
-lower-snoc v h (digit w k l) = digit w k (lower-snoc v h l)
+lower-snoc : {cs : List ℕ} (n : ℕ) → LowerCase cs → LowerCase (cs ++ hexDigit n ∷ [])
+lower-snoc n none = digit n none
+lower-snoc n (digit m l) = digit m (lower-snoc n l)
 
--- what is to be known of a text: hex digits, lower-case, of that number
+-- what is to be known of a text: lower-case, of that number
 record Good (cs : List ℕ) (n : ℕ) : Type 0 where
-  hex : T (allHex cs)
   lower : LowerCase cs
-  number : hexNumber cs ≡ n
+  value : hexNumber cs ≡ someNumber n
 
-good-snoc : {cs : List ℕ} {q : ℕ} (r : ℕ) → r < 16 → Good cs q → Good (cs ++ hexDigit r ∷ []) (q * 16 + r)
-good-snoc {cs} {q} r h g =
-    let v : hexValue (hexDigit r) ≡ r = hex-of-digit r h in
+good-snoc : {cs : List ℕ} (n : ℕ) → Good cs (n / 16) → Good (cs ++ hexDigit n ∷ []) n
+good-snoc {cs} n g =
+    let whole : n / 16 * 16 + n % 16 ≡ n = omega arith in
     record {
-      hex = hex-snoc cs (hexDigit r) (g .hex) (omega arith);
-      lower = lower-snoc r h (g .lower);
-      number = number-snoc 0 cs (hexDigit r) ∙ rw (v, g .number);
+      lower = lower-snoc n (g .lower);
+      value = number-snoc 0 cs (hexDigit n) (g .value) (hex-of-digit n) ∙ ap (λ (x : ℕ). someNumber x) whole;
     }
 
 text-good : (bound n : ℕ) → n < bound → Good (hexText n) n
-unfolding allHex hexAfter
+unfolding hexAfter
 text-good zero n h = absurd (omega arith)
 text-good (suc bound) n h = go (decLt 0 (n / 16)) (text-good bound (n / 16))
   where
-    whole : n / 16 * 16 + n % 16 ≡ n
-    whole = omega arith
-
     join : Good (left (n / 16)) (n / 16) → Good (hexText n) n
-    join g = subst₂ Good (sym (text-last n)) whole (good-snoc (n % 16) (omega arith) g)
+    join g = subst (λ (cs : List ℕ). Good cs n) (sym (text-last n)) (good-snoc n g)
 
     nothing : (q : ℕ) → q ≡ 0 → Good (left q) q
-    nothing zero e = record { hex = tt; lower = none; number = refl }
+    nothing zero e = record { lower = none; value = refl }
     nothing (suc q) e = absurd (omega arith)
 
     go : Dec (0 < n / 16) → (n / 16 < bound → Good (hexText (n / 16)) (n / 16)) → Good (hexText n) n
@@ -74,60 +68,60 @@ text-good (suc bound) n h = go (decLt 0 (n / 16)) (text-good bound (n / 16))
 -- an accepted text passes the checks, and stands for its number
 record Accepted (largest : ℕ) (text : List ℕ) (n : ℕ) : Type 0 where
   some : 0 < length text
-  few : length text ≤ mostDigits
-  hex : T (allHex text)
-  small : n ≤ largest
-  number : hexNumber text ≡ n
+  value : hexNumber text ≡ someNumber n
 
 accepted : (largest : ℕ) (text : List ℕ) (n : ℕ) → readHex largest text ≡ answer n → Accepted largest text n
 unfolding readHex hexChecks
-accepted largest text n e =
-    let p : Passes (hexChecks largest text) = answered 0 (hexNumber text) (hexChecks largest text) (omega arith) (ap (λ (o : Outcome ℕ). o .number) e) in
-    let v : hexNumber text ≡ n = ap (λ (o : Outcome ℕ). o .value) (sym (passes (refuse 0) (hexChecks largest text) (answer (hexNumber text)) p) ∙ e) in
-    record {
-      some = ltb→lt 0 (length text) (p .0);
-      few = leb→le (length text) mostDigits (p .1 .0);
-      hex = p .1 .1 .0;
-      small = omega (arith, leb→le (hexNumber text) largest (p .1 .1 .1 .0));
-      number = v;
-    }
+accepted largest text n e = go (hexNumber text) refl e
+  where
+    go : (x : HexNumber) → hexNumber text ≡ x → readNumber largest text x ≡ answer n → Accepted largest text n
+    go (someNumber m) q e =
+        let p : Passes (hexChecks largest text m) = answered 0 m (hexChecks largest text m) (omega arith) (ap (λ (o : Outcome ℕ). o .number) e) in
+        let v : m ≡ n = ap (λ (o : Outcome ℕ). o .value) (sym (passes (refuse 0) (hexChecks largest text m) (answer m) p) ∙ e) in
+        record { some = ltb→lt 0 (length text) (p .0); value = q ∙ ap (λ (x : ℕ). someNumber x) v }
+    go noNumber q e = absurd (omega (arith, ap (λ (o : Outcome ℕ). o .number) e))
 
 -- a text of some digits is below the power of sixteen of their number
-below : (high : ℕ) (cs : List ℕ) → T (allHex cs) → hexAfter high cs < (high + 1) * 2 ^ (4 * length cs)
-unfolding hexAfter allHex
-below high [] h = omega arith
-below high (c ∷ cs) h = go (decLt (hexValue c) 16) (below (high * 16 + hexValue c) cs)
+below : (high : ℕ) (cs : List ℕ) {n : ℕ} → hexAfter high cs ≡ someNumber n → n < (high + 1) * 2 ^ (4 * length cs)
+unfolding hexAfter
+below high [] {n} e = let q : high ≡ n = cc in omega arith
+below high (c ∷ cs) {n} e = go (hexValue c) refl e (λ u f. below (high * 16 + u) cs f)
   where
-    go : Dec (hexValue c < 16) → (T (allHex cs) → hexAfter (high * 16 + hexValue c) cs < (high * 16 + hexValue c + 1) * 2 ^ (4 * length cs)) → hexAfter (high * 16 + hexValue c) cs < (high + 1) * 2 ^ (4 * suc (length cs))
-    go (yes k) f =
-        let t : T (allHex cs) = rw (lt-ltb (hexValue c) 16 k, allHex) at h in
-        let e : 4 * suc (length cs) ≡ 4 + 4 * length cs = omega arith in
-        let m : (hexValue c + 1) * 2 ^ (4 * length cs) ≤ 16 * 2 ^ (4 * length cs) = mul-le-mul-right (2 ^ (4 * length cs)) (omega arith) in
-        rw (e, pow-add 2 4 (4 * length cs)) (omega (arith, f t, m))
-    go (no k) f = let l : 16 ≤ hexValue c = omega arith in absurd (rw (le-ltb (hexValue c) 16 l, allHex) at h)
+    go : (y : HexValue) → hexValue c ≡ y → (elim y as (λ _. HexNumber) [ Digit u ↦ hexAfter (high * 16 + u) cs | None ↦ noNumber ]) ≡ someNumber n
+        → ((u : ℕ) → hexAfter (high * 16 + u) cs ≡ someNumber n → n < (high * 16 + u + 1) * 2 ^ (4 * length cs)) → n < (high + 1) * 2 ^ (4 * suc (length cs))
+    go (Digit u) q e f =
+        let k : u < 16 = hex-below c q in
+        let s : 4 * suc (length cs) ≡ 4 + 4 * length cs = omega arith in
+        let m : (u + 1) * 2 ^ (4 * length cs) ≤ 16 * 2 ^ (4 * length cs) = mul-le-mul-right (2 ^ (4 * length cs)) (omega arith) in
+        rw (s, pow-add 2 4 (4 * length cs)) (omega (arith, f u e, m))
+    go None q e f = let z : _≡_ {A = ℕ} 0 1 = cc in absurd (omega arith)
+
+-- a digit in front, by its value
+after-digit : (high n : ℕ) (cs : List ℕ) → hexAfter high (hexDigit n ∷ cs) ≡ hexAfter (high * 16 + n % 16) cs
+unfolding hexAfter
+after-digit high n cs = rw (hex-of-digit n, hexAfter)
+
+same-digit : (m n : ℕ) → m % 16 ≡ n % 16 → hexDigit m ≡ hexDigit n
+unfolding hexDigit
+same-digit m n e = ap (λ (v : ℕ). getD lowerDigits v 0) e
 
 -- equally long lower-case texts of one number are one text
 same-text : (a b : ℕ) {cs ds : List ℕ} → LowerCase cs → LowerCase ds → length cs ≡ length ds → hexAfter a cs ≡ hexAfter b ds → (a ≡ b) × (cs ≡ ds)
 unfolding hexAfter
-same-text a b none none l e = (e, refl)
-same-text a b none (digit w k q) l e = absurd (omega arith)
-same-text a b (digit v h p) none l e = absurd (omega arith)
-same-text a b (digit v {cs = cs} h p) (digit w {cs = ds} k q) l e =
-    let r = same-text (a * 16 + hexValue (hexDigit v)) (b * 16 + hexValue (hexDigit w)) p q (omega arith) e in
-    let s : a * 16 + v ≡ b * 16 + w = rw (hex-of-digit v h, hex-of-digit w k) at (r .0) in
-    let m : v ≡ w = omega arith in
-    (omega arith, ap₂ (λ (x : ℕ) (xs : List ℕ). hexDigit x ∷ xs) m (r .1))
+same-text a b none none l e = (cc, refl)
+same-text a b none (digit n q) l e = absurd (omega arith)
+same-text a b (digit m p) none l e = absurd (omega arith)
+same-text a b (digit m {cs = cs} p) (digit n {cs = ds} q) l e =
+    let r = same-text (a * 16 + m % 16) (b * 16 + n % 16) p q (omega arith) (sym (after-digit a m cs) ∙ e ∙ after-digit b n ds) in
+    (omega (arith, r .0), ap₂ (λ (x : ℕ) (xs : List ℕ). x ∷ xs) (same-digit m n (omega (arith, r .0))) (r .1))
 
 -- the text of a number, and the bounds under which it is read
 module _ (largest n : ℕ) (small : n ≤ largest) (wide : largest < 2 ^ 64) where
   pub text-reads : readHex largest (hexText n) ≡ answer n
-  unfolding readHex hexChecks digitCount
+  unfolding digitCount
   text-reads =
       let g : Good (hexText n) n = text-good (suc n) n (omega arith) in
-      let c : digitCount n ≤ 16 = count-within n (omega arith) in
-      let s : 0 < digitCount n = omega (arith, count-last n) in
-      let e : hexNumber (hexText n) ≡ n = g .number in
-      passes (refuse 0) (hexChecks largest (hexText n)) (answer (hexNumber (hexText n))) (omega (arith, tests), (omega (arith, tests), (g .hex, (omega (arith, tests), tt)))) ∙ ap answer e
+      sym (read-number largest (hexText n) (g .value) (omega (arith, count-last n)) (count-within n (omega arith)) small)
 
   pub text-shortest : Shortest largest n (hexText n)
   unfolding digitCount
@@ -140,7 +134,7 @@ module _ (largest n : ℕ) (small : n ≤ largest) (wide : largest < 2 ^ 64) whe
       fewest : (other : List ℕ) → Accepted largest other n → digitCount n ≤ length other
       fewest other a =
           let d : length other ≡ suc (length other - 1) = omega (arith, a .some) in
-          let b : n < 2 ^ (4 * suc (length other - 1)) = rw (← d) (omega (arith, below 0 other (a .hex), a .number)) in
+          let b : n < 2 ^ (4 * suc (length other - 1)) = rw (← d) (omega (arith, below 0 other (a .value))) in
           omega (arith, count-least (length other - 1) n b)
 
   -- and there is no other such text
@@ -150,4 +144,4 @@ module _ (largest n : ℕ) (small : n ≤ largest) (wide : largest < 2 ^ 64) whe
       let l : length text ≡ length (hexText n) = omega (arith, s .fewest (hexText n) (t .reads), t .fewest text (s .reads)) in
       let a = accepted largest text n (s .reads) in
       let b = accepted largest (hexText n) n (t .reads) in
-      same-text 0 0 (s .lower) (t .lower) l (a .number ∙ sym (b .number)) .1
+      same-text 0 0 (s .lower) (t .lower) l (a .value ∙ sym (b .value)) .1

@@ -1,7 +1,7 @@
 // Unit text of a CPU: a number in hexadecimal.
+use characters::HexValue;
 use refusal::Refusal;
 ghost use mathlib.Core.Path.{_≡_};
-ghost use Prim.Native.Nat.{_<_};
 ghost use lib.ListN.{length};
 ghost use Rattle.unit.specs.Hex.{digitCount, readHex, writeHex, afterHex};
 ghost use Rattle.unit.specs.Unit.{readUnit, writeUnit, afterUnit, hexOutcome, unitOutcome, lengthOutcome};
@@ -31,7 +31,7 @@ pub struct TextWritten {
 }
 
 fn wide(x: u8) -> u64
-    ensures { λ r. ⌜ (r ≡ x) × (r < 256) ⌝ }
+    ensures { λ r. ⌜ r ≡ x ⌝ }
 {
     x as u64
 }
@@ -56,15 +56,18 @@ pub fn read_hex(text: &[u8], largest: u64) -> HexRead
     let mut value: u64 = 0;
     let mut i = 0;
     while i < text.len() {
-        let digit = wide(characters::hex_value(text[i]));
-        if 15 < digit {
-            return HexRead {
-                refusal: Refusal::UnitText,
-                value: 0,
-            };
+        match characters::hex_value(text[i]) {
+            HexValue::Digit(digit) => {
+                value = value * 16 + wide(digit);
+                i += 1;
+            }
+            HexValue::None => {
+                return HexRead {
+                    refusal: Refusal::UnitText,
+                    value: 0,
+                };
+            }
         }
-        value = value * 16 + digit;
-        i += 1;
     }
     if largest < value {
         return HexRead {
@@ -125,7 +128,7 @@ pub fn write_hex(number: u64, buffer: &mut [u8], at: usize) -> TextWritten
     let mut place = at + count;
     while at < place {
         place -= 1;
-        buffer[place] = characters::hex_digit(rest % 16);
+        buffer[place] = characters::hex_digit(rest);
         rest = rest / 16;
     }
     TextWritten {

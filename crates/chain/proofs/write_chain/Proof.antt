@@ -3,7 +3,7 @@ use native.Mathlib.Omega.{arith}
 use borrow.Author.Needs.{needs}
 use lib.ListN.{length-set}
 use Rattle.chain.specs.Layers.{setAt}
-use Rattle.chain.proofs.WriteLaws.{Writing, write-begins, write-low, write-length, write-more, write-ends}
+use Rattle.chain.proofs.WriteLaws.{Writing, write-begins, write-low, write-length, write-more, write-stops, write-ends}
 use Rattle.chain.proofs.write_chain.Statement.{statement}
 use Rattle.chain.proofs.write_chain.Tie as tie
 
@@ -40,11 +40,27 @@ row-requires c κs = search needs
 lowest-outside-requires : tie.Need-lowest-outside-requires Inv-loop μ-loop
 lowest-outside-requires c κs = search needs
 
+enum-known-j : tie.Need-enum-known-j Inv-loop μ-loop
+enum-known-j c = search needs
+
 loop-less : tie.Need-loop-less Inv-loop μ-loop
 loop-less c = omega arith
 
 loop-again : tie.Need-loop-again Inv-loop μ-loop
-loop-again c = write-more (c .before .before .before .before .loop .inv) (omega arith) (c .before .row .ensures) (c .lowest-outside .ensures)
+loop-again c =
+    let next = c .before .before .before in
+    write-more (next .before .before .before .before .loop .inv) (omega arith) (next .before .row .ensures) (next .lowest-outside .ensures) (c .before .j .given .1)
+
+enum-told : tie.Need-enum-told Inv-loop μ-loop
+enum-told c = search needs
+
+same-length : tie.Need-same-length Inv-loop μ-loop
+same-length c = simp length-set (write-length (c .before .before .before .before .before .before .loop .inv))
+
+returns : tie.Need-returns Inv-loop μ-loop
+returns c =
+    let next = c .before .before in
+    write-stops (next .before .before .before .before .loop .inv) (omega arith) (next .before .row .ensures) (next .lowest-outside .ensures) (c .enum-told .given .1)
 
 cast-out-2 : tie.Need-cast-out-2 Inv-loop μ-loop
 cast-out-2 c = omega (arith, write-low (c .before .loop .inv))
@@ -52,11 +68,11 @@ cast-out-2 c = omega (arith, write-low (c .before .loop .inv))
 slice-write-out-2 : tie.Need-slice-write-out-2 Inv-loop μ-loop
 slice-write-out-2 c = omega (arith, write-length (c .before .loop .inv), c .before .loop .inv .steps, c .before .loop .inv .fits)
 
-same-length : tie.Need-same-length Inv-loop μ-loop
-same-length c = simp length-set (write-length (c .before .loop .inv))
+same-length-2 : tie.Need-same-length-2 Inv-loop μ-loop
+same-length-2 c = simp length-set (write-length (c .before .loop .inv))
 
-returns : tie.Need-returns Inv-loop μ-loop
-returns c = write-ends (c .before .loop .inv) (omega arith)
+returns-2 : tie.Need-returns-2 Inv-loop μ-loop
+returns-2 c = write-ends (c .before .loop .inv) (omega arith)
 
 pub write-chain-spec : {M : Type 1} → statement M
 write-chain-spec =
@@ -73,9 +89,13 @@ write-chain-spec =
     element-copy-out-s
     row-requires
     lowest-outside-requires
+    enum-known-j
     loop-less
     loop-again
+    enum-told
+    same-length
+    returns
     cast-out-2
     slice-write-out-2
-    same-length
-    returns)
+    same-length-2
+    returns-2)

@@ -1,12 +1,8 @@
 -- `characters::hex_digit` meets its contract. Assumes nothing.
-use native.Mathlib.Omega.{arith}
-use Rattle.characters.proofs.Digits.{digit-low, digit-high, digit-past}
+use Rattle.characters.proofs.Digits.{digit-low, digit-high}
 use borrow.Author.Needs.{needs}
 use Rattle.characters.proofs.hex_digit.Statement.{statement}
 use Rattle.characters.proofs.hex_digit.Tie as tie
-
-returns : tie.Need-returns
-returns c = digit-past _ (omega arith)
 
 add-result : tie.Need-add-result
 add-result c = search needs
@@ -20,12 +16,12 @@ add-result-2 c = search needs
 cast-result-2 : tie.Need-cast-result-2
 cast-result-2 c = search needs
 
-returns-2 : tie.Need-returns-2
-returns-2 c = digit-low _ (c .if2 .taken)
+returns : tie.Need-returns
+returns c = digit-low _ (c .if1 .taken)
 
-returns-3 : tie.Need-returns-3
-returns-3 c = digit-high _ (c .if2 .left) (omega arith)
+returns-2 : tie.Need-returns-2
+returns-2 c = digit-high _ (c .if1 .left)
 
 pub hex-digit-spec : {M : Type 1} → statement M
 hex-digit-spec =
-    tie.close (tie.spec returns add-result cast-result add-result-2 cast-result-2 returns-2 returns-3)
+    tie.close (tie.spec add-result cast-result add-result-2 cast-result-2 returns returns-2)

@@ -25,17 +25,17 @@ mul-word c = search needs
 element-copy-out-word : tie.Need-element-copy-out-word Inv-loop μ-loop
 element-copy-out-word c = omega (arith, c .before .loop .inv .within)
 
-mul-result : tie.Need-mul-result Inv-loop μ-loop
-mul-result c = omega (arith, c .before .before .before .loop .inv .within)
+mul-i : tie.Need-mul-i Inv-loop μ-loop
+mul-i c = omega (arith, c .before .before .before .loop .inv .within)
 
-cast-result : tie.Need-cast-result Inv-loop μ-loop
-cast-result c = omega (arith, top-small (c .before .before .before .before .args .t1 .words) (word-list _ (search needs) (λ v. search needs)) (c .before .before .before .loop .w - 1) (c .if1 .taken))
+cast-i : tie.Need-cast-i Inv-loop μ-loop
+cast-i c = omega (arith, top-small (c .before .before .before .before .args .t1 .words) (word-list _ (search needs) (λ v. search needs)) (c .before .before .before .loop .w - 1) (c .if1 .taken))
 
-sub-result : tie.Need-sub-result Inv-loop μ-loop
-sub-result c = omega (arith, top-small (c .before .before .before .before .args .t1 .words) (word-list _ (search needs) (λ v. search needs)) (c .before .before .before .loop .w - 1) (c .if1 .taken))
+sub-i : tie.Need-sub-i Inv-loop μ-loop
+sub-i c = omega (arith, top-small (c .before .before .before .before .args .t1 .words) (word-list _ (search needs) (λ v. search needs)) (c .before .before .before .loop .w - 1) (c .if1 .taken))
 
-add-result : tie.Need-add-result Inv-loop μ-loop
-add-result c = omega (arith, c .before .before .before .loop .inv .within)
+add-i : tie.Need-add-i Inv-loop μ-loop
+add-i c = omega (arith, c .before .before .before .loop .inv .within)
 
 returns : tie.Need-returns Inv-loop μ-loop
 returns c = picks-highest _ (word-list _ (search needs) (λ v. search needs)) _ (omega (arith, c .before .before .before .loop .inv .within)) (c .if1 .taken)
@@ -45,9 +45,6 @@ loop-less c = omega arith
 
 loop-again : tie.Need-loop-again Inv-loop μ-loop
 loop-again c = none-from-next _ (c .before .before .before .loop .inv) (omega arith) (c .if1 .left)
-
-mul-result-2 : tie.Need-mul-result-2 Inv-loop μ-loop
-mul-result-2 c = search needs
 
 returns-2 : tie.Need-returns-2 Inv-loop μ-loop
 returns-2 c = picks-none _ (word-list _ (search needs) (λ v. search needs)) (c .before .loop .inv) (omega arith)
@@ -62,12 +59,11 @@ highest-spec =
     sub-w
     mul-word
     element-copy-out-word
-    mul-result
-    cast-result
-    sub-result
-    add-result
+    mul-i
+    cast-i
+    sub-i
+    add-i
     returns
     loop-less
     loop-again
-    mul-result-2
     returns-2)

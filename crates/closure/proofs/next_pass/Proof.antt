@@ -8,6 +8,7 @@ use Rattle.positions.specs.Sets.{room, has, memberCount}
 use Rattle.tables.proofs.SlotLaws.{used-low}
 use Rattle.closure.specs.Parts.{slotsIn}
 use Rattle.closure.proofs.SlotLaws.{slots-in, slots-wider}
+use Rattle.closure.proofs.PickLaws.{picked-member, picked-none}
 use Rattle.closure.proofs.PassLaws.{Looked, looked-again, look-tested, looked-all, todo-within, todo-done, todo-less}
 use Rattle.closure.proofs.next_pass.Statement.{statement}
 use Rattle.closure.proofs.next_pass.Tie as tie
@@ -29,8 +30,17 @@ loop-holds c = (looked-again _ _ (c .empty .ensures) _ _ (c .before .before .bef
 outermost-requires : tie.Need-outermost-requires Inv-loop μ-loop
 outermost-requires c κs = search needs
 
+enum-told : tie.Need-enum-told Inv-loop μ-loop
+enum-told c = search needs
+
 returns : tie.Need-returns Inv-loop μ-loop
-returns c = looked-all _ _ _ (c .before .before .loop .inv .0) (λ j h. c .before .outermost .ensures .none (c .if1 .taken) j (omega (arith, c .before .before .before .before .before .before .pre .0)))
+returns c =
+    let none = picked-none _ (c .before .before .outermost .ensures) (c .enum-told .given .1) in
+    let start = c .before .before .before .before .before .before .before in
+    looked-all _ _ _ (c .before .before .before .loop .inv .0) (λ j h. none j (omega (arith, start .pre .0)))
+
+enum-known-i : tie.Need-enum-known-i Inv-loop μ-loop
+enum-known-i c = search needs
 
 remove-requires : tie.Need-remove-requires Inv-loop μ-loop
 remove-requires c κs = search needs
@@ -39,16 +49,21 @@ used-requires : tie.Need-used-requires Inv-loop μ-loop
 used-requires c κs = search needs
 
 tested-requires : tie.Need-tested-requires Inv-loop μ-loop
-tested-requires c κs = let used = c .used .ensures ∙ used-low _ _ (omega arith) in (omega arith, omega arith)
+tested-requires c κs =
+    let picked = picked-member _ (c .before .before .before .before .before .outermost .ensures) (c .before .before .before .i .given .1) in
+    let used = c .used .ensures ∙ used-low _ _ (omega arith) in (omega arith, omega arith)
 
 loop-less : tie.Need-loop-less Inv-loop μ-loop
-loop-less c = todo-less _ _ (c .before .before .remove .ensures) (omega arith) (c .before .before .before .before .outermost .ensures .member (omega arith))
+loop-less c =
+    let picked = picked-member _ (c .before .before .before .before .before .before .outermost .ensures) (c .before .before .before .before .i .given .1) in
+    todo-less _ _ (c .before .before .remove .ensures) (picked .0) (picked .1)
 
 loop-again : tie.Need-loop-again Inv-loop μ-loop
 loop-again c =
-    let loop = c .before .before .before .before .before in
-    let start = c .before .before .before .before .before .before .before .before .before in
-    let low = loop .loop .inv .1 _ (omega arith) (c .before .before .before .before .outermost .ensures .member (omega arith)) in
+    let loop = c .before .before .before .before .before .before .before in
+    let start = loop .before .before .before .before in
+    let picked = picked-member _ (c .before .before .before .before .before .before .outermost .ensures) (c .before .before .before .before .i .given .1) in
+    let low = loop .loop .inv .1 _ (picked .0) (picked .1) in
     let used = c .before .used .ensures ∙ used-low _ _ (omega arith) in (
       look-tested _ _ (slots-wider _ _) (start .pre .0) _ low _ _ (loop .loop .inv .0) _
           (λ j h z ne. todo-done _ _ (c .before .before .remove .ensures) j (omega (arith, start .pre .0)) z ne) (slots-in _ _ _ used _) (c .tested .ensures),
@@ -64,7 +79,9 @@ next-pass-spec =
     empty-requires
     loop-holds
     outermost-requires
+    enum-told
     returns
+    enum-known-i
     remove-requires
     used-requires
     tested-requires

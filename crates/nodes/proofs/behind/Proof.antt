@@ -12,21 +12,21 @@ text-end-requires c κs = search needs
 enum-known-ending : tie.Need-enum-known-ending
 enum-known-ending c = search needs
 
-sub-result : tie.Need-sub-result
-sub-result c =
+sub-at : tie.Need-sub-at
+sub-at c =
     let g = name-ends _ _ _ (sym (c .before .before .before .text-end .ensures) ∙ c .before .ending .given .1) in
     omega (arith, g .long, g .within, c .before .before .before .before .before .good)
 
-add-result : tie.Need-add-result
-add-result c = search needs
+add-at : tie.Need-add-at
+add-at c = search needs
 
-mul-result : tie.Need-mul-result
-mul-result c =
+mul-at : tie.Need-mul-at
+mul-at c =
     let g = name-ends _ _ _ (sym (c .before .before .before .text-end .ensures) ∙ c .before .ending .given .1) in
     omega (arith, g .long, g .within, c .before .before .before .before .before .good)
 
-add-result-2 : tie.Need-add-result-2
-add-result-2 c =
+add-at-2 : tie.Need-add-at-2
+add-at-2 c =
     let g = name-ends _ _ _ (sym (c .before .before .before .text-end .ensures) ∙ c .before .ending .given .1) in
     omega (arith, g .long, g .within, c .before .before .before .before .before .good)
 
@@ -45,10 +45,10 @@ behind-spec =
     (tie.spec
     text-end-requires
     enum-known-ending
-    sub-result
-    add-result
-    mul-result
-    add-result-2
+    sub-at
+    add-at
+    mul-at
+    add-at-2
     enum-told
     returns
     returns-2)

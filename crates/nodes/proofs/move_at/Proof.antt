@@ -11,11 +11,11 @@ step-requires c κs = search needs
 enum-known-step : tie.Need-enum-known-step
 enum-known-step c = search needs
 
-behind-requires : tie.Need-behind-requires
-behind-requires c κs = search needs
+next-behind-requires : tie.Need-next-behind-requires
+next-behind-requires c κs = search needs
 
 returns : tie.Need-returns
-returns c = move-child _ _ _ _ (c .before .before .before .before .before .before .before .pre .0) (c .before .before .before .before .before .before .before .pre .1) (sym (c .before .before .before .before .before .step .ensures) ∙ c .before .before .before .step2 .given .1) (c .before .behind .ensures) (c .if1 .taken)
+returns c = move-child _ _ _ _ (c .before .before .before .before .before .before .before .pre .0) (c .before .before .before .before .before .before .before .pre .1) (sym (c .before .before .before .before .before .step .ensures) ∙ c .before .before .before .step2 .given .1) (c .before .next-behind .ensures) (c .if1 .taken)
 
 add-t16 : tie.Need-add-t16
 add-t16 c = search needs
@@ -42,7 +42,7 @@ enum-told-2 : tie.Need-enum-told-2
 enum-told-2 c = search needs
 
 returns-3 : tie.Need-returns-3
-returns-3 c = move-deeper _ _ _ _ (c .before .before .before .before .before .before .before .pre .0) (c .before .before .before .before .before .before .before .pre .1) (sym (c .before .before .before .before .before .step .ensures) ∙ c .before .before .before .step2 .given .1) (c .before .behind .ensures) (c .if1 .left)
+returns-3 c = move-deeper _ _ _ _ (c .before .before .before .before .before .before .before .pre .0) (c .before .before .before .before .before .before .before .pre .1) (sym (c .before .before .before .before .before .step .ensures) ∙ c .before .before .before .step2 .given .1) (c .before .next-behind .ensures) (c .if1 .left)
 
 returns-4 : tie.Need-returns-4
 returns-4 c = move-up _ _ _ _ (c .before .before .before .before .before .before .pre .0) (c .before .before .before .before .before .before .pre .1) (sym (c .before .before .before .before .step .ensures) ∙ c .before .before .step3 .given .1) (c .if2 .left)
@@ -65,7 +65,7 @@ move-at-spec =
     (tie.spec
     step-requires
     enum-known-step
-    behind-requires
+    next-behind-requires
     returns
     add-t16
     enum-known-step-2

@@ -4,16 +4,17 @@ use mathlib.Core.Path.{_≡_, refl, sym, ap, _∙_}
 use native.Mathlib.Omega.{arith}
 use Prim.Native.Nat.{_-_, min}
 use lib.ListN.{getD}
+use Rattle.positions.specs.declared.Position.the-variants.{Nowhere}
 use Rattle.record.specs.Record.{mostFeatures}
 use Rattle.nodes.specs.Places.{noPlace, sameNames, firstRepeated}
-use Rattle.nodes.proofs.SearchLaws.{same-is, Searched, Compared, repeated-is, search-begins, row-begins, row-more, row-done, search-found, search-none}
+use Rattle.nodes.proofs.SearchLaws.{same-is, Searched, Compared, search-begins, row-begins, row-more, row-done, search-found, search-none}
 use Rattle.nodes.proofs.repeated_name.Statement.{statement}
 use Rattle.nodes.proofs.repeated_name.Tie as tie
 
 abbrev Inv-loop : tie.InvT-loop
 Inv-loop tree fs end count found₀ i p j₀ found j =
     (count ≡ min (fs .count) mostFeatures)
-    × (found ≡ count)
+    × (found ≡ Nowhere)
     × (p ≡ getD (fs .places) i noPlace)
     × Compared (sameNames tree end (fs .places)) count i j
 
@@ -22,7 +23,7 @@ abbrev μ-loop : tie.MeasureT-loop
 
 abbrev Inv-search : tie.InvT-search
 Inv-search tree fs end count found₀ i₀ found i =
-    (count ≡ min (fs .count) mostFeatures) × (found ≡ count) × Searched (sameNames tree end (fs .places)) count i
+    (count ≡ min (fs .count) mostFeatures) × (found ≡ Nowhere) × Searched (sameNames tree end (fs .places)) count i
 
 abbrev μ-search : tie.MeasureT-search
 μ-search tree fs end count found₀ i₀ found i = count - i
@@ -80,13 +81,13 @@ search-again c =
 returns : tie.Need-returns Inv-loop μ-loop Inv-search μ-search
 returns c =
     let s = c .before .search .inv in
-    repeated-is _ _ (search-none _ _ (s .2) (omega arith) (s .1)) ∙ ap (firstRepeated _) (s .0)
+    s .1 ∙ search-none _ _ (s .2) (omega arith) ∙ ap (firstRepeated _) (s .0)
 
 returns-2 : tie.Need-returns-2 Inv-loop μ-loop Inv-search μ-search
 returns-2 c =
     let l = c .before .before .before .before .loop .inv in
     let same = sym (same-is _ _ _ _ _ (l .2) (c .before .same-name .ensures)) ∙ c .if1 .taken in
-    repeated-is _ _ (search-found _ _ _ (l .3) (omega arith) same) ∙ ap (firstRepeated _) (l .0)
+    search-found _ _ _ (l .3) (omega arith) same ∙ ap (firstRepeated _) (l .0)
 
 pub repeated-name-spec : {M : Type 1} → statement M
 repeated-name-spec =

@@ -30,17 +30,17 @@ mul-outside-2 c = search needs
 element-copy-out-outside-2 : tie.Need-element-copy-out-outside-2 Inv-loop μ-loop
 element-copy-out-outside-2 c = search needs
 
-mul-result : tie.Need-mul-result Inv-loop μ-loop
-mul-result c = search needs
+mul-i : tie.Need-mul-i Inv-loop μ-loop
+mul-i c = search needs
 
-cast-result : tie.Need-cast-result Inv-loop μ-loop
-cast-result c =
+cast-i : tie.Need-cast-i Inv-loop μ-loop
+cast-i c =
     let loop = c .before .before .before .before in
     let start = loop .before in
     omega (arith, trailing-le 64 (wordOutside (start .args .t1 .words) (start .args .t2 .words) (loop .loop .w)))
 
-add-result : tie.Need-add-result Inv-loop μ-loop
-add-result c =
+add-i : tie.Need-add-i Inv-loop μ-loop
+add-i c =
     let loop = c .before .before .before .before in
     let start = loop .before in
     omega (arith, trailing-le 64 (wordOutside (start .args .t1 .words) (start .args .t2 .words) (loop .loop .w)))
@@ -59,9 +59,6 @@ loop-less c = omega arith
 loop-again : tie.Need-loop-again Inv-loop μ-loop
 loop-again c = none-more _ _ (word-list _ (search needs) (λ v. search needs)) (c .before .before .before .before .loop .inv) (omega arith) (c .if1 .left)
 
-mul-result-2 : tie.Need-mul-result-2 Inv-loop μ-loop
-mul-result-2 c = search needs
-
 returns-2 : tie.Need-returns-2 Inv-loop μ-loop
 returns-2 c = lowest-none (c .before .loop .inv) (omega arith)
 
@@ -76,12 +73,11 @@ lowest-outside-spec =
     element-copy-out-outside
     mul-outside-2
     element-copy-out-outside-2
-    mul-result
-    cast-result
-    add-result
+    mul-i
+    cast-i
+    add-i
     returns
     add-w
     loop-less
     loop-again
-    mul-result-2
     returns-2)
