@@ -25,10 +25,10 @@ use Rattle.reader.proofs.JudgedLaws.{judged-both}
 use Rattle.reader.proofs.PropertyLaws.{required-judged, optional-judged}
 
 -- bit 0 of a support cell
-support-judged : {needed : Bool} {v u : Value} {s r : CellRead} → CellIs needed v s → numberOf (s .refusal) ≡ 0 → BitIs (bit (s .number) 0) u r → (at : ℕ)
-    → Judged (bitChecks at (lowBit v) u) (numberOf (r .refusal)) at
-support-judged {u = u} {r = r} h z g at =
-    subst (λ (n : ℕ). Judged (bitChecks at (bit n 0) u) (numberOf (r .refusal)) at) (h .cell (sym (h .fault) ∙ z) .number) (g .judged at)
+support-judged : {highest : ℕ} {needed : Bool} {v u : Value} {s r : CellRead} → CellIs needed v s → numberOf (s .refusal) ≡ 0 → BitIs highest (bit (s .number) 0) u r → (at : ℕ)
+    → Judged (bitChecks at highest (lowBit v) u) (numberOf (r .refusal)) at
+support-judged {highest} {u = u} {r = r} h z g at =
+    subst (λ (n : ℕ). Judged (bitChecks at highest (bit n 0) u) (numberOf (r .refusal)) at) (h .cell (sym (h .fault) ∙ z) .number) (g .judged at)
 
 module _ {tree : List ℕ} {b : Blocks} {p : NodePlace} {phandles : List ℕ} {i : ℕ} {cells : FeatureCells} (cs : CellsAre (treeTokens tree b (p .behind)) phandles i cells)
     (before : List Node) (n : Node) (h : IsNode tree b n p) where

@@ -8,7 +8,6 @@ use lib.Dec.{leb}
 use Rattle.tokens.specs.Steps.{pick}
 use Rattle.refusal.specs.declared.Refusal.the-variants.{OutOfRange}
 use Rattle.refusal.specs.Refusal.{numberOf}
-use Rattle.record.specs.Record.{highestBit}
 use Rattle.feature.specs.declared.CellRead.{CellRead}
 use Rattle.feature.specs.Feature.{firstOf}
 use Rattle.feature.proofs.RefusalLaws.{first-left}
@@ -44,11 +43,11 @@ module _ (high : ℕ) {needed : Bool} {v : Value} {c : CellRead} (h : CellIs nee
             refused = λ _. n .0;
           })
 
-pub bit-is : {needed known : Bool} {v : Value} {c r : CellRead} → needed ≡ known → CellIs needed v c → r ≡ atMost highestBit c → BitIs known v r
-bit-is {needed} {known} {v} e h q =
-    let g = ranged highestBit h q in
+pub bit-is : (highest : ℕ) {needed known : Bool} {v : Value} {c r : CellRead} → needed ≡ known → CellIs needed v c → r ≡ atMost highest c → BitIs highest known v r
+bit-is highest {needed} {known} {v} e h q =
+    let g = ranged highest h q in
     rw (← e)
     (record {
-      judged = λ at. rw (g .fault) (judged-both _ _ (given-judged needed v at) (λ z. judged-pick (leb (number v) highestBit) 12 at (omega arith)));
+      judged = λ at. rw (g .fault) (judged-both _ _ (given-judged needed v at) (λ z. judged-pick (leb (number v) highest) 12 at (omega arith)));
       cell = g .cell;
     })

@@ -13,7 +13,7 @@ use Rattle.cells.specs.Rows.{padded}
 use Rattle.strings.specs.Strings.{isString}
 use Rattle.record.specs.declared.Record.{Record}
 use Rattle.record.specs.declared.Feature.{Feature}
-use Rattle.record.specs.Record.{mostFeatures, mostDependencies, slotCount, noFeature, noFeatures}
+use Rattle.record.specs.Record.{mostFeatures, mostDependencies, slotCount, highestHfscrBit, highestFscrBit, highestHwcapBit, noFeature, noFeatures}
 use Rattle.characters.specs.Characters.{bytes}
 use Rattle.positions.specs.Bits.{bit}
 use Rattle.nodes.specs.declared.NodePlace.{NodePlace}
@@ -89,8 +89,8 @@ abbrev pub AreFeatures : List Feature → List Node → Type 0
 AreFeatures features nodes = features ≡ padded mostFeatures noFeature (map featureOf nodes)
 
 -- a bit number
-pub record BitIs (needed : Bool) (v : Value) (r : CellRead) : Type 0 where
-  pub judged : (at : ℕ) → Judged (bitChecks at needed v) (numberOf (r .refusal)) at
+pub record BitIs (highest : ℕ) (needed : Bool) (v : Value) (r : CellRead) : Type 0 where
+  pub judged : (at : ℕ) → Judged (bitChecks at highest needed v) (numberOf (r .refusal)) at
   pub cell : numberOf (r .refusal) ≡ 0 → Holds v r
 
 -- a phandle behind the features of some nodes
@@ -105,9 +105,9 @@ pub record SupportIs (ts : List Token) (r : SupportCells) : Type 0 where
   pub os : CellIs false (valueIn (bytes "os-support") ts) (r .«os_support»)
 
 pub record BitsAre (ts : List Token) (s : SupportCells) (r : BitCells) : Type 0 where
-  pub hfscr : BitIs (bit (s .«hv_support» .number) 0) (valueIn (bytes "hfscr-bit-nr") ts) (r .«hfscr_bit_nr»)
-  pub fscr : BitIs (bit (s .«os_support» .number) 0) (valueIn (bytes "fscr-bit-nr") ts) (r .«fscr_bit_nr»)
-  pub hwcap : BitIs (bit (s .«usable_privilege» .number) 0) (valueIn (bytes "hwcap-bit-nr") ts) (r .«hwcap_bit_nr»)
+  pub hfscr : BitIs highestHfscrBit (bit (s .«hv_support» .number) 0) (valueIn (bytes "hfscr-bit-nr") ts) (r .«hfscr_bit_nr»)
+  pub fscr : BitIs highestFscrBit (bit (s .«os_support» .number) 0) (valueIn (bytes "fscr-bit-nr") ts) (r .«fscr_bit_nr»)
+  pub hwcap : BitIs highestHwcapBit (bit (s .«usable_privilege» .number) 0) (valueIn (bytes "hwcap-bit-nr") ts) (r .«hwcap_bit_nr»)
 
 pub record CellsAre (ts : List Token) (phandles : List ℕ) (n : ℕ) (r : FeatureCells) : Type 0 where
   pub isa : CellIs true (valueIn (bytes "isa") ts) (r .isa)

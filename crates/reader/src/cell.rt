@@ -3,7 +3,6 @@ use feature::CellRead;
 use header::Blocks;
 use nodes::Held;
 use nodes::value_of;
-use record::HIGHEST_BIT;
 use record::MOST_DEPENDENCIES;
 use refusal::Refusal;
 ghost use mathlib.Core.Path.{_≡_};
@@ -66,23 +65,25 @@ pub(crate) fn at_most(c: CellRead, high: u32) -> CellRead
     no_cell(Refusal::OutOfRange)
 }
 
-// A bit number, needed where bit 0 of a support cell is set.
+// A bit number, at most `highest`, needed where bit 0 of a support cell is set.
 pub(crate) fn read_bit(
     tree: &[u8],
     b: Blocks,
     first: usize,
     name: &[u8],
     support: CellRead,
+    highest: u32,
 ) -> CellRead
     requires { ⌜ b .end ≤ length-of (now tree) ⌝ }
     ensures { λ r.
         ⌜ BitIs
+        highest
         (bit-of (support .number) 0)
         (valueIn (now (name .entry)) (treeTokens (now (tree .entry)) b first))
         r ⌝ }
 {
     let needed = positions::bit_set(support.number as u64, 0);
-    at_most(read_cell(tree, b, first, name, needed), HIGHEST_BIT)
+    at_most(read_cell(tree, b, first, name, needed), highest)
 }
 
 // The number of a node's dependencies: whole cells, at most sixteen.

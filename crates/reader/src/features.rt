@@ -17,6 +17,9 @@ use nodes::ChildPlaces;
 use nodes::NodePlace;
 use positions::Position;
 use record::Feature;
+use record::HIGHEST_FSCR_BIT;
+use record::HIGHEST_HFSCR_BIT;
+use record::HIGHEST_HWCAP_BIT;
 use record::MOST_FEATURES;
 use refusal::Refusal;
 ghost use mathlib.Core.Path.{_≡_};
@@ -106,9 +109,30 @@ fn read_bits(tree: &[u8], b: Blocks, first: usize, s: SupportCells) -> BitCells
     ensures { λ r. ⌜ BitsAre (treeTokens (now (tree .entry)) b first) s r ⌝ }
 {
     BitCells {
-        hfscr_bit_nr: read_bit(tree, b, first, b"hfscr-bit-nr", s.hv_support),
-        fscr_bit_nr: read_bit(tree, b, first, b"fscr-bit-nr", s.os_support),
-        hwcap_bit_nr: read_bit(tree, b, first, b"hwcap-bit-nr", s.usable_privilege),
+        hfscr_bit_nr: read_bit(
+            tree,
+            b,
+            first,
+            b"hfscr-bit-nr",
+            s.hv_support,
+            HIGHEST_HFSCR_BIT,
+        ),
+        fscr_bit_nr: read_bit(
+            tree,
+            b,
+            first,
+            b"fscr-bit-nr",
+            s.os_support,
+            HIGHEST_FSCR_BIT,
+        ),
+        hwcap_bit_nr: read_bit(
+            tree,
+            b,
+            first,
+            b"hwcap-bit-nr",
+            s.usable_privilege,
+            HIGHEST_HWCAP_BIT,
+        ),
     }
 }
 

@@ -9,7 +9,7 @@ use lib.ListN.{length}
 use Rattle.refusal.proofs.Checks.{Passes}
 use Rattle.header.specs.Header.{blocksOf}
 use Rattle.names.specs.Names.{sameText, either}
-use Rattle.record.specs.Record.{mostFeatures, mostDependencies, highestBit}
+use Rattle.record.specs.Record.{mostFeatures, mostDependencies, highestHfscrBit, highestFscrBit, highestHwcapBit}
 use Rattle.walk.specs.Checked.{checkTree}
 use Rattle.nodes.specs.Nodes.{Node, nodeAt, children}
 use Rattle.nodes.specs.Values.{Value, valueOf, isGiven, isCell, isCellOrMissing, isCells, number, lowBit}
@@ -23,10 +23,10 @@ given-where : (required given : Bool) → T (either (not required) given) → re
 given-where true given h e = holds-true given h
 given-where false given h e = absurd (false≢true e)
 
-bit-form : (support v : Value) → T (either (not (lowBit support)) (isGiven v)) → T (isCellOrMissing v) → T (leb (number v) highestBit) → BitForm support v
-bit-form support v g f r = record {
+bit-form : (highest : ℕ) (support v : Value) → T (either (not (lowBit support)) (isGiven v)) → T (isCellOrMissing v) → T (leb (number v) highest) → BitForm highest support v
+bit-form highest support v g f r = record {
   form = holds-true (isCellOrMissing v) f;
-  range = leb→le (number v) highestBit r;
+  range = leb→le (number v) highest r;
   required = given-where (lowBit support) (isGiven v) g;
 }
 
@@ -40,10 +40,10 @@ feature-form before n h p =
       privilege = holds-true (isCell (valueOf n "usable-privilege")) (p .1 .0);
       hypervisor = holds-true (isCellOrMissing (valueOf n "hv-support")) (p .1 .1 .0);
       system = holds-true (isCellOrMissing (valueOf n "os-support")) (p .1 .1 .1 .0);
-      hfscr = bit-form (valueOf n "hv-support") (valueOf n "hfscr-bit-nr") (q .0) (q .1 .0) (q .1 .1 .0);
-      fscr = bit-form (valueOf n "os-support") (valueOf n "fscr-bit-nr") (q .1 .1 .1 .0) (q .1 .1 .1 .1 .0) (q .1 .1 .1 .1 .1 .0);
+      hfscr = bit-form highestHfscrBit (valueOf n "hv-support") (valueOf n "hfscr-bit-nr") (q .0) (q .1 .0) (q .1 .1 .0);
+      fscr = bit-form highestFscrBit (valueOf n "os-support") (valueOf n "fscr-bit-nr") (q .1 .1 .1 .0) (q .1 .1 .1 .1 .0) (q .1 .1 .1 .1 .1 .0);
       hwcap =
-          bit-form (valueOf n "usable-privilege") (valueOf n "hwcap-bit-nr") (q .1 .1 .1 .1 .1 .1 .0) (q .1 .1 .1 .1 .1 .1 .1 .0)
+          bit-form highestHwcapBit (valueOf n "usable-privilege") (valueOf n "hwcap-bit-nr") (q .1 .1 .1 .1 .1 .1 .0) (q .1 .1 .1 .1 .1 .1 .1 .0)
           (q .1 .1 .1 .1 .1 .1 .1 .1 .0);
       phandle = holds-true (isCellOrMissing (valueOf n "phandle")) (r .0);
       phandleRange = holds-true (isPhandle (valueOf n "phandle")) (r .1 .0);

@@ -13,7 +13,7 @@ use Rattle.refusal.proofs.Checks.{Passes, passes}
 use Rattle.header.specs.Header.{blocksOf}
 use Rattle.names.specs.Names.{either}
 use Rattle.record.specs.declared.Record.{Record}
-use Rattle.record.specs.Record.{mostFeatures, mostDependencies, highestBit, noFeatures}
+use Rattle.record.specs.Record.{mostFeatures, mostDependencies, highestHfscrBit, highestFscrBit, highestHwcapBit, noFeatures}
 use Rattle.walk.specs.Checked.{layoutOf}
 use Rattle.walk.specs.Faults.{CheckEnds, answered, headerRefused, walkRefused}
 use Rattle.walk.specs.declared.Layout.{Layout}
@@ -66,9 +66,9 @@ where-given : (required given : Bool) → (required ≡ true → given ≡ true)
 where-given true given f = true-holds (f refl)
 where-given false given f = tt
 
-bit-passes : (at : ℕ) (support v : Value) → BitForm support v → Passes (bitChecks at (lowBit support) v)
-bit-passes at support v f =
-    (where-given (lowBit support) (isGiven v) (f .required), (true-holds (f .form), (le→leb (number v) highestBit (f .range), tt)))
+bit-passes : (at highest : ℕ) (support v : Value) → BitForm highest support v → Passes (bitChecks at highest (lowBit support) v)
+bit-passes at highest support v f =
+    (where-given (lowBit support) (isGiven v) (f .required), (true-holds (f .form), (le→leb (number v) highest (f .range), tt)))
 
 abbrev frontChecks : Node → List (Check Fault)
 frontChecks n =
@@ -76,18 +76,18 @@ frontChecks n =
     ++ requiredChecks (n .at) (valueOf n "usable-privilege")
     ++ optionalChecks (n .at) (valueOf n "hv-support")
     ++ optionalChecks (n .at) (valueOf n "os-support")
-    ++ bitChecks (n .at) (lowBit (valueOf n "hv-support")) (valueOf n "hfscr-bit-nr")
+    ++ bitChecks (n .at) highestHfscrBit (lowBit (valueOf n "hv-support")) (valueOf n "hfscr-bit-nr")
 
 feature-passes : (before : List Node) (n : Node) → FeatureForm before n → Passes (featureChecks before n)
 unfolding featureChecks
 feature-passes before n f =
-    let fscr = bitChecks (n .at) (lowBit (valueOf n "os-support")) (valueOf n "fscr-bit-nr") in
-    let hwcap = bitChecks (n .at) (lowBit (valueOf n "usable-privilege")) (valueOf n "hwcap-bit-nr") in
+    let fscr = bitChecks (n .at) highestFscrBit (lowBit (valueOf n "os-support")) (valueOf n "fscr-bit-nr") in
+    let hwcap = bitChecks (n .at) highestHwcapBit (lowBit (valueOf n "usable-privilege")) (valueOf n "hwcap-bit-nr") in
     let phandle = phandleChecks (n .at) before (valueOf n "phandle") in
     let dependencies = dependenciesChecks (n .at) (valueOf n "dependencies") in
-    let h = bit-passes (n .at) (valueOf n "hv-support") (valueOf n "hfscr-bit-nr") (f .hfscr) in
-    let s = bit-passes (n .at) (valueOf n "os-support") (valueOf n "fscr-bit-nr") (f .fscr) in
-    let w = bit-passes (n .at) (valueOf n "usable-privilege") (valueOf n "hwcap-bit-nr") (f .hwcap) in
+    let h = bit-passes (n .at) _ (valueOf n "hv-support") (valueOf n "hfscr-bit-nr") (f .hfscr) in
+    let s = bit-passes (n .at) _ (valueOf n "os-support") (valueOf n "fscr-bit-nr") (f .fscr) in
+    let w = bit-passes (n .at) _ (valueOf n "usable-privilege") (valueOf n "hwcap-bit-nr") (f .hwcap) in
     let p : Passes phandle = (true-holds (f .phandle), (true-holds (f .phandleRange), (false-holds (f .phandleOnce), tt))) in
     let d : Passes dependencies = (true-holds (f .dependencies), (le→leb (length (dependenciesOf n)) mostDependencies (f .few), tt)) in
     let front : Passes (frontChecks n) = (true-holds (f .isa), (true-holds (f .privilege), (true-holds (f .hypervisor), (true-holds (f .system), h)))) in

@@ -10,7 +10,7 @@ use Rattle.positions.specs.Bits.{bit}
 use Rattle.positions.specs.Below.{every}
 use Rattle.record.specs.declared.Record.{Record}
 use Rattle.record.specs.declared.Property.the-variants.{UsablePrivilege, HvSupport, OsSupport, HfscrBitNr, FscrBitNr, HwcapBitNr}
-use Rattle.record.specs.Record.{mostFeatures, mostDependencies, highestBit, featureAt, slotAt}
+use Rattle.record.specs.Record.{mostFeatures, mostDependencies, highestHfscrBit, highestFscrBit, highestHwcapBit, featureAt, slotAt}
 use Rattle.record.specs.Cells.{lowBit, dependencyCount}
 use Rattle.form.specs.WellFormed.{bitFits, bitsFit, dependenciesFit, featureFits, wellFormed}
 use Rattle.nodes.specs.Nodes.{Node, nodeAt, children}
@@ -34,21 +34,21 @@ not-required : (b : Bool) → (b ≡ true → false ≡ true) → not b ≡ true
 not-required true f = absurd (false≢true (f refl))
 not-required false f = refl
 
-bit-fits : (support v : Value) → BitForm support v → bitFits (lowBit (cellOf support)) (cellOf v) ≡ true
-bit-fits support (value bs) f = le-leb (number (value bs)) highestBit (f .range)
-bit-fits missing missing f = refl
-bit-fits (value bs) missing f = not-required (bit (number (value bs)) 0) (f .required)
+bit-fits : (highest : ℕ) (support v : Value) → BitForm highest support v → bitFits highest (lowBit (cellOf support)) (cellOf v) ≡ true
+bit-fits highest support (value bs) f = le-leb (number (value bs)) highest (f .range)
+bit-fits highest missing missing f = refl
+bit-fits highest (value bs) missing f = not-required (bit (number (value bs)) 0) (f .required)
 
 node-fits : {before : List Node} (n : Node) → FeatureForm before n
-    → (bitFits (lowBit (cellIn n HvSupport)) (cellIn n HfscrBitNr)
-    && bitFits (lowBit (cellIn n OsSupport)) (cellIn n FscrBitNr)
-    && bitFits (lowBit (cellIn n UsablePrivilege)) (cellIn n HwcapBitNr))
+    → (bitFits highestHfscrBit (lowBit (cellIn n HvSupport)) (cellIn n HfscrBitNr)
+    && bitFits highestFscrBit (lowBit (cellIn n OsSupport)) (cellIn n FscrBitNr)
+    && bitFits highestHwcapBit (lowBit (cellIn n UsablePrivilege)) (cellIn n HwcapBitNr))
     ≡ true
 unfolding cellIn
 node-fits n f =
     both-true
-    (both-true (bit-fits (valueOf n "hv-support") (valueOf n "hfscr-bit-nr") (f .hfscr)) (bit-fits (valueOf n "os-support") (valueOf n "fscr-bit-nr") (f .fscr)))
-    (bit-fits (valueOf n "usable-privilege") (valueOf n "hwcap-bit-nr") (f .hwcap))
+    (both-true (bit-fits _ (valueOf n "hv-support") (valueOf n "hfscr-bit-nr") (f .hfscr)) (bit-fits _ (valueOf n "os-support") (valueOf n "fscr-bit-nr") (f .fscr)))
+    (bit-fits _ (valueOf n "usable-privilege") (valueOf n "hwcap-bit-nr") (f .hwcap))
 
 module _ (c : Node) (r : Record) (h : Holds c r) (s : Resolved (children c) r) where
   bits-fit : (i : ℕ) → i < r .count → {before : List Node} → FeatureForm before (nodeAt (children c) i) → bitsFit (featureAt r i) ≡ true

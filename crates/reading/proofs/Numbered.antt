@@ -4,7 +4,7 @@ use Prim.Native.Nat.{ℕ, _≤_}
 use native.Mathlib.Omega.{arith}
 use Rattle.refusal.specs.Refusal.{Fault}
 use Rattle.refusal.specs.Checks.{Check}
-use Rattle.record.specs.Record.{mostFeatures}
+use Rattle.record.specs.Record.{highestHfscrBit, highestFscrBit, highestHwcapBit, mostFeatures}
 use Rattle.nodes.specs.Nodes.{Node, nodeAt, children}
 use Rattle.nodes.specs.Values.{valueOf, lowBit}
 use Rattle.reading.specs.Features.{inOrder, nameChecks, requiredChecks, optionalChecks, bitChecks, phandleChecks, dependenciesChecks, featureChecks}
@@ -44,10 +44,10 @@ module _ (limit : ℕ) where
       ++ requiredChecks at (valueOf n "usable-privilege")
       ++ optionalChecks at (valueOf n "hv-support")
       ++ optionalChecks at (valueOf n "os-support")
-      ++ bitChecks at (lowBit (valueOf n "hv-support")) (valueOf n "hfscr-bit-nr")
-      ++ bitChecks at (lowBit (valueOf n "os-support")) (valueOf n "fscr-bit-nr") in
+      ++ bitChecks at highestHfscrBit (lowBit (valueOf n "hv-support")) (valueOf n "hfscr-bit-nr")
+      ++ bitChecks at highestFscrBit (lowBit (valueOf n "os-support")) (valueOf n "fscr-bit-nr") in
       let back =
-      bitChecks at (lowBit (valueOf n "usable-privilege")) (valueOf n "hwcap-bit-nr")
+      bitChecks at highestHwcapBit (lowBit (valueOf n "usable-privilege")) (valueOf n "hwcap-bit-nr")
       ++ phandleChecks at before (valueOf n "phandle")
       ++ dependenciesChecks at (valueOf n "dependencies") in
       let f : Numbered front = omega arith in

@@ -8,7 +8,7 @@ use Rattle.refusal.specs.Refusal.{Fault}
 use Rattle.refusal.specs.Checks.{Check}
 use Rattle.header.specs.Header.{blocksOf}
 use Rattle.names.specs.Names.{sameText}
-use Rattle.record.specs.Record.{mostFeatures, mostDependencies, highestBit}
+use Rattle.record.specs.Record.{mostFeatures, mostDependencies, highestHfscrBit, highestFscrBit, highestHwcapBit}
 use Rattle.walk.specs.Checked.{checkTree}
 use Rattle.nodes.specs.Nodes.{Node, nodeAt, children}
 use Rattle.nodes.specs.Values.{Value, valueOf, isText, isGiven, isCell, isCellOrMissing, isCells, number, lowBit, cellsOf}
@@ -31,9 +31,9 @@ abbrev pub dependenciesOf : Node → List ℕ
 dependenciesOf n = cellsOf (valueOf n "dependencies")
 
 -- "0 to 63; required where that bit 0 is set"
-pub record BitForm (support v : Value) : Type 0 where
+pub record BitForm (highest : ℕ) (support v : Value) : Type 0 where
   pub form : isCellOrMissing v ≡ true
-  pub range : number v ≤ highestBit
+  pub range : number v ≤ highest
   pub required : lowBit support ≡ true → isGiven v ≡ true
 
 -- a feature behind others: its properties are of the right form, and neither its name nor its phandle is one of theirs
@@ -42,9 +42,9 @@ pub record FeatureForm (before : List Node) (n : Node) : Type 0 where
   pub privilege : isCell (valueOf n "usable-privilege") ≡ true
   pub hypervisor : isCellOrMissing (valueOf n "hv-support") ≡ true
   pub system : isCellOrMissing (valueOf n "os-support") ≡ true
-  pub hfscr : BitForm (valueOf n "hv-support") (valueOf n "hfscr-bit-nr")
-  pub fscr : BitForm (valueOf n "os-support") (valueOf n "fscr-bit-nr")
-  pub hwcap : BitForm (valueOf n "usable-privilege") (valueOf n "hwcap-bit-nr")
+  pub hfscr : BitForm highestHfscrBit (valueOf n "hv-support") (valueOf n "hfscr-bit-nr")
+  pub fscr : BitForm highestFscrBit (valueOf n "os-support") (valueOf n "fscr-bit-nr")
+  pub hwcap : BitForm highestHwcapBit (valueOf n "usable-privilege") (valueOf n "hwcap-bit-nr")
   pub phandle : isCellOrMissing (valueOf n "phandle") ≡ true
   pub phandleRange : isPhandle (valueOf n "phandle") ≡ true
   pub phandleOnce : isRepeated before (valueOf n "phandle") ≡ false

@@ -8,7 +8,7 @@ use Rattle.refusal.specs.Refusal.{Fault, fault}
 use Rattle.refusal.specs.Checks.{Check, check}
 use Rattle.names.specs.Names.{sameText, either}
 use Rattle.record.specs.declared.Feature.{Feature}
-use Rattle.record.specs.Record.{highestBit, mostDependencies}
+use Rattle.record.specs.Record.{highestHfscrBit, highestFscrBit, highestHwcapBit, mostDependencies}
 use Rattle.positions.specs.Below.{oneIf}
 use Rattle.nodes.specs.Nodes.{Node}
 use Rattle.nodes.specs.Values.{Value, missing, value, valueOf, isGiven, isCell, isCellOrMissing, isCells, number, lowBit, cellsOf}
@@ -54,11 +54,11 @@ abbrev pub optionalChecks : ℕ → Value → List (Check Fault)
 optionalChecks at v = check (isCellOrMissing v) (fault 11 at) ∷ []
 
 -- "0 to 63; required where that bit 0 is set"; "length before range"
-abbrev pub bitChecks : ℕ → Bool → Value → List (Check Fault)
-bitChecks at required v =
+abbrev pub bitChecks : ℕ → ℕ → Bool → Value → List (Check Fault)
+bitChecks at highest required v =
     check (either (not required) (isGiven v)) (fault 11 at)
     ∷ check (isCellOrMissing v) (fault 11 at)
-    ∷ check (leb (number v) highestBit) (fault 12 at)
+    ∷ check (leb (number v) highest) (fault 12 at)
     ∷ []
 
 -- "optional, one cell, neither 0 nor all ones; one that an earlier feature carries is 9"
@@ -77,9 +77,9 @@ featureChecks before n =
     ++ requiredChecks (n .at) (valueOf n "usable-privilege")
     ++ optionalChecks (n .at) (valueOf n "hv-support")
     ++ optionalChecks (n .at) (valueOf n "os-support")
-    ++ bitChecks (n .at) (lowBit (valueOf n "hv-support")) (valueOf n "hfscr-bit-nr")
-    ++ bitChecks (n .at) (lowBit (valueOf n "os-support")) (valueOf n "fscr-bit-nr")
-    ++ bitChecks (n .at) (lowBit (valueOf n "usable-privilege")) (valueOf n "hwcap-bit-nr")
+    ++ bitChecks (n .at) highestHfscrBit (lowBit (valueOf n "hv-support")) (valueOf n "hfscr-bit-nr")
+    ++ bitChecks (n .at) highestFscrBit (lowBit (valueOf n "os-support")) (valueOf n "fscr-bit-nr")
+    ++ bitChecks (n .at) highestHwcapBit (lowBit (valueOf n "usable-privilege")) (valueOf n "hwcap-bit-nr")
     ++ phandleChecks (n .at) before (valueOf n "phandle")
     ++ dependenciesChecks (n .at) (valueOf n "dependencies")
 

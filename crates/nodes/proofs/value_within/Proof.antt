@@ -36,19 +36,19 @@ is-named-requires c κs = search needs
 returns : tie.Need-returns Inv-loop μ-loop
 returns c =
     let l = c .before .before .before .before .before .before .before .loop .inv in
-    let e = sym (c .before .before .before .before .before .step .ensures) ∙ c .before .before .before .step2 .given .1 in
+    let e = sym (c .before .before .before .before .before .step .ensures .0) ∙ c .before .before .before .step2 .given .1 in
     held-here _ _ _ _ _ e (c .before .is-named .ensures) (c .if1 .taken) (l .0) ∙ l .1
 
 loop-less : tie.Need-loop-less Inv-loop μ-loop
 loop-less c =
-    let e = sym (c .before .before .before .before .before .step .ensures) ∙ c .before .before .before .step2 .given .1 in
+    let e = sym (c .before .before .before .before .before .step .ensures .0) ∙ c .before .before .before .step2 .given .1 in
     let m = property-moves _ _ _ e in
     omega arith
 
 loop-again : tie.Need-loop-again Inv-loop μ-loop
 loop-again c =
     let l = c .before .before .before .before .before .before .before .loop .inv in
-    let e = sym (c .before .before .before .before .before .step .ensures) ∙ c .before .before .before .step2 .given .1 in
+    let e = sym (c .before .before .before .before .before .step .ensures .0) ∙ c .before .before .before .step2 .given .1 in
     (l .0, sym (held-other _ _ _ _ _ e (c .before .is-named .ensures) (c .if1 .left)) ∙ l .1)
 
 enum-known-step-2 : tie.Need-enum-known-step-2 Inv-loop μ-loop
@@ -56,18 +56,18 @@ enum-known-step-2 c = search needs
 
 loop-less-2 : tie.Need-loop-less-2 Inv-loop μ-loop
 loop-less-2 c =
-    let e = sym (c .before .before .before .step .ensures) ∙ c .before .step3 .given .1 in
+    let e = sym (c .before .before .before .step .ensures .0) ∙ c .before .step3 .given .1 in
     let m = nop-moves _ _ _ e in
     omega arith
 
 loop-again-2 : tie.Need-loop-again-2 Inv-loop μ-loop
 loop-again-2 c =
     let l = c .before .before .before .before .before .loop .inv in
-    let e = sym (c .before .before .before .step .ensures) ∙ c .before .step3 .given .1 in
+    let e = sym (c .before .before .before .step .ensures .0) ∙ c .before .step3 .given .1 in
     (l .0, sym (held-nop _ _ _ _ _ e) ∙ l .1)
 
 returns-2 : tie.Need-returns-2 Inv-loop μ-loop
-returns-2 c = sym (held-none _ _ _ _ _ _ (c .before .step .ensures) (c .match .keys3)) ∙ c .before .before .before .loop .inv .1
+returns-2 c = sym (held-none _ _ _ _ _ _ (c .before .step .ensures .0) (c .match .keys3)) ∙ c .before .before .before .loop .inv .1
 
 returns-3 : tie.Need-returns-3 Inv-loop μ-loop
 returns-3 c = sym (held-past _ _ _ _ _ (omega arith)) ∙ c .before .loop .inv .1

@@ -17,7 +17,7 @@ at-most-requires : tie.Need-at-most-requires
 at-most-requires c κs = search needs
 
 returns : tie.Need-returns
-returns c = bit-is (c .before .before .bit-set .ensures) (c .before .read-cell .ensures) (c .at-most .ensures)
+returns c = bit-is _ (c .before .before .bit-set .ensures) (c .before .read-cell .ensures) (c .at-most .ensures)
 
 pub read-bit-spec : {M : Type 1} → statement M
 read-bit-spec =
