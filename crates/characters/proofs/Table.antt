@@ -9,7 +9,7 @@ use lib.Dec.{eqb}
 use lib.ListN.{length, getD}
 use Rattle.characters.specs.declared.HexValue.{HexValue}
 use Rattle.characters.specs.declared.HexValue.the-variants.{Digit, None}
-use Rattle.characters.specs.Characters.{lowerDigits, upperDigits, valueIn, orElse, hexValue, hexDigit, hexEntry, oneIf, entryOf, isNodeCharacter, isPropertyCharacter, run, characterTable, isNodeEntry, isPropertyEntry}
+use Rattle.characters.specs.Characters.{lowerDigits, upperDigits, digitValue, orElse, hexValue, hexDigit, hexEntry, oneIf, entryOf, isNodeCharacter, isPropertyCharacter, run, characterTable, isNodeEntry, isPropertyEntry}
 
 run-at : (f : ℕ → ℕ) (n i k : ℕ) → k < n → getD (run f n i) k 0 ≡ f (i + k)
 unfolding run
@@ -30,11 +30,11 @@ abbrev Small : HexValue → Type 0
 Small (Digit v) = v < 16
 Small None = Unit {0}
 
-values-small : (v : ℕ) (ds : List ℕ) (b : ℕ) → v + length ds ≤ 16 → Small (valueIn v ds b)
+values-small : (v : ℕ) (ds : List ℕ) (b : ℕ) → v + length ds ≤ 16 → Small (digitValue v ds b)
 values-small v [] b h = tt
 values-small v (d ∷ ds) b h = go (eqb b d) (values-small (suc v) ds b (omega arith))
   where
-    go : (e : Bool) → Small (valueIn (suc v) ds b) → Small (cond e (Digit v) (valueIn (suc v) ds b))
+    go : (e : Bool) → Small (digitValue (suc v) ds b) → Small (cond e (Digit v) (digitValue (suc v) ds b))
     go true s = omega arith
     go false s = s
 
@@ -45,7 +45,7 @@ small-else None y s t = t
 small : (b : ℕ) → Small (hexValue b)
 unfolding hexValue
 small b =
-    small-else (valueIn 0 lowerDigits b) (valueIn 0 upperDigits b) (values-small 0 lowerDigits b (omega arith)) (values-small 0 upperDigits b (omega arith))
+    small-else (digitValue 0 lowerDigits b) (digitValue 0 upperDigits b) (values-small 0 lowerDigits b (omega arith)) (values-small 0 upperDigits b (omega arith))
 
 pub hex-below : (b : ℕ) {v : ℕ} → hexValue b ≡ Digit v → v < 16
 hex-below b e = subst Small e (small b)

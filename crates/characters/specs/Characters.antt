@@ -39,9 +39,9 @@ abbrev pub upperDigits : List ℕ
 upperDigits = bytes "0123456789ABCDEF"
 
 -- the value of a character that stands in a list of digits: its place, counted from `v`
-abbrev pub valueIn : ℕ → List ℕ → ℕ → HexValue
-valueIn v [] b = None
-valueIn v (d ∷ ds) b = cond (eqb b d) (Digit v) (valueIn (suc v) ds b)
+abbrev pub digitValue : ℕ → List ℕ → ℕ → HexValue
+digitValue v [] b = None
+digitValue v (d ∷ ds) b = cond (eqb b d) (Digit v) (digitValue (suc v) ds b)
 
 -- the first of two values, or the second where there is no first
 abbrev pub orElse : HexValue → HexValue → HexValue
@@ -50,7 +50,7 @@ orElse None x = x
 
 -- "hex, either case": a digit's value is its place in either of these; no other character has one
 unfoldable pub hexValue : ℕ → HexValue
-hexValue b = orElse (valueIn 0 lowerDigits b) (valueIn 0 upperDigits b)
+hexValue b = orElse (digitValue 0 lowerDigits b) (digitValue 0 upperDigits b)
 
 -- "written lower-case": the hex digit of a number's last four bits
 unfoldable pub hexDigit : ℕ → ℕ

@@ -6,8 +6,8 @@ use mathlib.Core.List.{List, [], _∷_, _++_}
 use Prim.Native.Nat.{ℕ, zero, suc, _+_, _-_, _<_, _≤_}
 use native.Mathlib.Omega.{arith}
 use native.Mathlib.Decide.{decLe}
-use lib.ListN.{length, getD, take, drop, length-take, length-drop, drop-of-length-le}
-use lib.Seq.{getD-take, getD-drop, take-add, take-all, drop-at, drop-drop}
+use lib.ListN.{length, getD, take, drop, length-take, length-drop}
+use lib.Seq.{getD-take, getD-drop, take-add, drop-at, drop-drop}
 use Rattle.cells.specs.Cells.{cellAt}
 use Rattle.strings.specs.Strings.{Text, ended}
 use Rattle.names.specs.Names.{isPropertyName, sameText}
@@ -202,13 +202,3 @@ module _ (cpu parent strings name : List ℕ) where
   pub no-part : lookup cpu parent strings name ≡ Nowhere → [] ≡ partOf cpu parent (lookup cpu parent strings name)
   unfolding partOf
   no-part e = sym (ap (partOf cpu parent) e)
-
--- the value in a part, as the code has it
-module _ (s : List ℕ) where
-  pub no-value : length s < 12 → [] ≡ valueOf s
-  unfolding valueOf
-  no-value h = let k : length s ≤ 12 = omega arith in sym (drop-of-length-le s k)
-
-  pub rest-value : take (length s - 12) (drop 12 s) ≡ valueOf s
-  unfolding valueOf
-  rest-value = let k : length (drop 12 s) ≤ length s - 12 = omega (arith, length-drop 12 s) in take-all (length s - 12) (drop 12 s) k

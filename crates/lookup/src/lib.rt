@@ -7,7 +7,7 @@ ghost use mathlib.Core.Path.{_≡_};
 ghost use Rattle.strings.specs.Strings.{ended};
 ghost use Rattle.names.specs.Names.{sameText};
 ghost use Rattle.refusal.specs.Refusal.{numberOf};
-ghost use Rattle.lookup.specs.Lookup.{blockOf, lookup as lookupIn, reason, lookedUp, lookedOutcome, partOf, valueOf};
+ghost use Rattle.lookup.specs.Lookup.{blockOf, lookup as lookupIn, reason, lookedUp, lookedOutcome, partOf};
 ghost use Rattle.lookup.specs.Parts.{nameIn, Stands, firstHit, Reads, firstOf, nowhere as nowhereFor};
 
 // A property's token, the length of its value and its name's offset come before its value.
@@ -223,14 +223,4 @@ pub fn lookup_reason(cpu: &[u8], parent: &[u8], strings: &[u8], name: &[u8]) -> 
 {
     let looked = look_up(cpu, parent, strings, name);
     looked.refusal
-}
-
-// The value in such a part.
-pub fn part_value(part: &[u8]) -> &[u8]
-    ensures { λ r. ⌜ now r ≡ valueOf (now (part .entry)) ⌝ }
-{
-    if part.len() < HEAD {
-        return &part[..0];
-    }
-    &part[HEAD..]
 }

@@ -1,23 +1,23 @@
 -- The properties of a node, read one after the other: what is left decides the whole. Assumes nothing.
 use mathlib.Core.Path.{_≡_, refl, sym, ap, _∙_}
-use mathlib.Core.Bool.{Bool, true, false, not}
+use mathlib.Core.Bool.{Bool, true, false}
 use mathlib.Core.List.{List, [], _∷_, _++_, append-assoc}
-use Prim.Native.Nat.{ℕ, zero, suc, _+_, _≤_, _<_}
+use Prim.Native.Nat.{ℕ, zero, suc, _+_}
 use native.Mathlib.Omega.{arith}
-use lib.ListN.{length, take, drop}
+use lib.ListN.{take, drop}
 use Rattle.refusal.specs.Refusal.{Placed, placed, refuseAt, fault as faultAt}
 use Rattle.refusal.specs.Checks.{firstFault}
-use Rattle.strings.specs.Strings.{Text, textAt}
+use Rattle.strings.specs.Strings.{Text}
 use Rattle.names.specs.Names.{both, isPropertyName}
 use Rattle.tokens.specs.declared.Cursor.{Cursor}
 use Rattle.tokens.specs.declared.Step.the-variants.{BeginNode, EndNode, Property, Nop, End, Fault}
 use Rattle.tokens.specs.Steps.{pick, stepAt}
-use Rattle.tokens.specs.Tokens.{Token, beginNode, endNode, property, nop, end, fault, afterBegin, tokens}
+use Rattle.tokens.specs.Tokens.{Token, property, nop, fault, tokens}
 use Rattle.tokens.proofs.TokenList.{tokens-step, property-moves, nop-moves}
 use Rattle.properties.specs.Properties.{among, givenBefore, nameFault, readProperties}
 use Rattle.properties.specs.Marks.{markOf, isSet, withMark}
 use Rattle.properties.proofs.LookBack.{propertyNames, Plain, plain-on, names-snoc, names-nop, among-before}
-use Rattle.properties.proofs.MarkLaws.{with-long, other-name, not-among}
+use Rattle.properties.proofs.MarkLaws.{other-name, not-among}
 
 -- a property: refused by the fault of its name, or what follows decides
 abbrev orRefused : ℕ → ℕ → Placed ℕ → Placed ℕ

@@ -10,7 +10,7 @@ use Rattle.refusal.specs.Checks.{Check, check}
 use Rattle.positions.specs.declared.Position.{Position}
 use Rattle.positions.specs.declared.Position.the-variants.{Nowhere, At}
 use Rattle.nodes.specs.Nodes.{Node}
-use Rattle.reading.specs.Dependencies.{carrier, isSomewhere, cellChecks, Resolution, unknown, found, onePosition, joined, positionsOf}
+use Rattle.reading.specs.Dependencies.{carrier, isSomewhere, cellChecks, Resolution, unknown, found, onePosition, followedBy, positionsOf}
 use Rattle.reading.specs.Ends.{AllHold, FirstFailing}
 use Rattle.reading.proofs.CheckLaws.{fail-left, fail-right, fail-here}
 
@@ -65,7 +65,7 @@ module _ (features : List Node) where
   pub carriers-found : {ps ks : List ℕ} → Carriers ps ks → positionsOf features ps ≡ found ks
   unfolding positionsOf
   carriers-found noCarriers = refl
-  carriers-found (nextCarrier e c) = ap₂ joined (ap onePosition e) (carriers-found c)
+  carriers-found (nextCarrier e c) = ap₂ followedBy (ap onePosition e) (carriers-found c)
 
   pub found-carriers : (ps : List ℕ) {ks : List ℕ} → positionsOf features ps ≡ found ks → Carriers ps ks
   unfolding positionsOf
@@ -73,7 +73,7 @@ module _ (features : List Node) where
   found-carriers (p ∷ ps) {ks} e = go (carrier features p) refl (positionsOf features ps) (λ js c. found-carriers ps c) e
     where
       go : (x : Position) → carrier features p ≡ x → (r : Resolution) → ((js : List ℕ) → r ≡ found js → Carriers ps js)
-          → joined (onePosition x) r ≡ found ks → Carriers (p ∷ ps) ks
+          → followedBy (onePosition x) r ≡ found ks → Carriers (p ∷ ps) ks
       go Nowhere a r b c = unknown≢found c
       go (At k) a unknown b c = unknown≢found c
       go (At k) a (found js) b c = subst (Carriers (p ∷ ps)) (found-same c) (nextCarrier a (b js refl))
@@ -81,8 +81,8 @@ module _ (features : List Node) where
   -- a phandle that no feature carries
   pub unknown-behind : {ps ks : List ℕ} (p : ℕ) (qs : List ℕ) → Carriers ps ks → carrier features p ≡ Nowhere → positionsOf features (ps ++ p ∷ qs) ≡ unknown
   unfolding positionsOf
-  unknown-behind p qs noCarriers h = ap (λ (x : Position). joined (onePosition x) (positionsOf features qs)) h
-  unknown-behind p qs (nextCarrier e c) h = ap₂ joined (ap onePosition e) (unknown-behind p qs c h)
+  unknown-behind p qs noCarriers h = ap (λ (x : Position). followedBy (onePosition x) (positionsOf features qs)) h
+  unknown-behind p qs (nextCarrier e c) h = ap₂ followedBy (ap onePosition e) (unknown-behind p qs c h)
 
   pub unknown-fails : (place : ℕ) (ps : List ℕ) → positionsOf features ps ≡ unknown → FirstFailing (cellChecks place features ps) 13 place
   unfolding positionsOf cellChecks
@@ -93,7 +93,7 @@ module _ (features : List Node) where
       here = check (isSomewhere (carrier features p)) (fault 13 place) ∷ []
 
       go : (x : Position) → carrier features p ≡ x → (r : Resolution) → (r ≡ unknown → FirstFailing (cellChecks place features ps) 13 place)
-          → joined (onePosition x) r ≡ unknown → FirstFailing (here ++ cellChecks place features ps) 13 place
+          → followedBy (onePosition x) r ≡ unknown → FirstFailing (here ++ cellChecks place features ps) 13 place
       go Nowhere a r b c = fail-left here (cellChecks place features ps) (fail-here 13 place (ap isSomewhere a))
       go (At k) a unknown b c = fail-right here (cellChecks place features ps) (ap isSomewhere a, tt) (b refl)
       go (At k) a (found js) b c = unknown≢found (sym c)

@@ -12,7 +12,7 @@ use Rattle.refusal.specs.Refusal.{Fault}
 use Rattle.refusal.specs.Checks.{Check}
 use Rattle.record.specs.Record.{mostDependencies}
 use Rattle.nodes.specs.Nodes.{Node, nodeAt}
-use Rattle.reading.specs.Dependencies.{isSomewhere, carrier, cellChecks, carrierChecks, found, joined, slotRow, slotsOf}
+use Rattle.reading.specs.Dependencies.{isSomewhere, carrier, cellChecks, carrierChecks, found, followedBy, slotRow, slotsOf}
 use Rattle.reading.specs.Accepted.{dependenciesOf}
 use Rattle.reading.specs.Ends.{AllHold, FirstFailing}
 use Rattle.reading.proofs.CheckLaws.{hold-both, fail-left, fail-right}
@@ -69,7 +69,7 @@ module _ (nodes : List Node) where
   pub rows-found : {ns : List Node} {slots : List ℕ} → Rows ns slots → slotsOf nodes ns ≡ found slots
   unfolding slotsOf
   rows-found noRows = refl
-  rows-found (nextRow f c r) = ap₂ joined (ap slotRow (carriers-found nodes c)) (rows-found r)
+  rows-found (nextRow f c r) = ap₂ followedBy (ap slotRow (carriers-found nodes c)) (rows-found r)
 
   pub rows-hold : {ns : List Node} {slots : List ℕ} → Rows ns slots → AllHold (carrierChecks nodes ns)
   unfolding carrierChecks

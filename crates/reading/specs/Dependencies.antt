@@ -48,15 +48,15 @@ onePosition Nowhere = unknown
 onePosition (At i) = found (i ∷ [])
 
 -- two resolutions, one behind the other; nothing where one of them is
-abbrev pub joined : Resolution → Resolution → Resolution
-joined unknown s = unknown
-joined (found is) unknown = unknown
-joined (found is) (found js) = found (is ++ js)
+abbrev pub followedBy : Resolution → Resolution → Resolution
+followedBy unknown s = unknown
+followedBy (found is) unknown = unknown
+followedBy (found is) (found js) = found (is ++ js)
 
 -- "each dependency becomes the position of the feature with that phandle"
 unfoldable pub positionsOf : List Node → List ℕ → Resolution
 positionsOf features [] = found []
-positionsOf features (p ∷ ps) = joined (onePosition (carrier features p)) (positionsOf features ps)
+positionsOf features (p ∷ ps) = followedBy (onePosition (carrier features p)) (positionsOf features ps)
 
 -- "16 a feature": its positions, and zero in the slots behind them
 abbrev pub slotRow : Resolution → Resolution
@@ -66,4 +66,4 @@ slotRow (found is) = found (padded mostDependencies 0 is)
 -- the rows of all features, one behind the other
 unfoldable pub slotsOf : List Node → List Node → Resolution
 slotsOf features [] = found []
-slotsOf features (n ∷ ns) = joined (slotRow (positionsOf features (cellsOf (valueOf n "dependencies")))) (slotsOf features ns)
+slotsOf features (n ∷ ns) = followedBy (slotRow (positionsOf features (cellsOf (valueOf n "dependencies")))) (slotsOf features ns)

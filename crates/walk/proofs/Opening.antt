@@ -8,10 +8,9 @@ use native.Mathlib.Omega.{arith}
 use lib.ListN.{take, drop}
 use Rattle.refusal.specs.Refusal.{Placed, placed, refuseAt, fault as faultAt}
 use Rattle.refusal.specs.Checks.{firstFault}
-use Rattle.strings.specs.Strings.{Text, textAt}
+use Rattle.strings.specs.Strings.{Text}
 use Rattle.header.specs.declared.Blocks.{Blocks}
 use Rattle.names.specs.Names.{isPropertyName}
-use Rattle.tokens.specs.declared.Cursor.{Cursor}
 use Rattle.tokens.specs.declared.Step.{Step}
 use Rattle.tokens.specs.declared.Step.the-variants.{BeginNode, EndNode, Property, Nop, End, Fault}
 use Rattle.tokens.specs.Steps.{stepAt}

@@ -30,7 +30,7 @@ pub data Part : Type 0 where
 
 abbrev pub partOf : Item → Part
 partOf (Skip next) = skip (next .at)
-partOf (Child at name length next) = child at name length (next .at)
+partOf (Child c) = child (c .at) (c .name) (c .length) (c .next .at)
 partOf (Close next) = close (next .at)
 partOf (Fault refusal at) = stopAt (numberOf refusal) at
 

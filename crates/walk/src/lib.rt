@@ -45,20 +45,20 @@ pub struct Checked {
     pub layout: Layout,
 }
 
+// A child of a node: its begin token, its name and how many characters that has, and what follows.
+struct ChildNode {
+    at: usize,
+    name: usize,
+    length: usize,
+    next: Cursor,
+}
+
 // What stands next in a node: something to skip, a child, its end, or a fault.
 enum Item {
     Skip(Cursor),
-    Child {
-        at: usize,
-        name: usize,
-        length: usize,
-        next: Cursor,
-    },
+    Child(ChildNode),
     Close(Cursor),
-    Fault {
-        refusal: Refusal,
-        at: usize,
-    },
+    Fault { refusal: Refusal, at: usize },
 }
 
 // The contents of a node: what follows its end token, or where the walk stops.
@@ -85,14 +85,14 @@ fn child_item(tree: &[u8], b: Blocks, t: usize, from: usize) -> Item
     let end = b.end;
     let read = names::node_name(tree, from, end);
     match read {
-        NameRead::Good(length) => Item::Child {
+        NameRead::Good(length) => Item::Child(ChildNode {
             at: t,
             name: from,
             length,
             next: Cursor {
                 at: from + (length / 4 + 1) * 4,
             },
-        },
+        }),
         NameRead::Bad => Item::Fault {
             refusal: Refusal::Name,
             at: t,
@@ -190,31 +190,23 @@ fn contents(tree: &[u8], b: Blocks, from: usize, levels: usize, seen: Containers
         return NodeRead::Stop { refusal, at };
     }
     let mut at = read.behind;
-    let mut found = seen;
+    let mut all = seen;
     loop {
         let item = item_at(tree, b, at);
         match item {
             Item::Skip(next) => {
                 at = next.at;
             }
-            Item::Child {
-                at: t,
-                name,
-                length,
-                next,
-            } => {
+            Item::Child(child) => {
                 if levels == 0 {
-                    return too_deep(t);
+                    return too_deep(child.at);
                 }
-                let now = noted(found, tree, t, name, length);
-                let inner = contents(tree, b, next.at, levels - 1, now);
+                let now = noted(all, tree, child.at, child.name, child.length);
+                let inner = contents(tree, b, child.next.at, levels - 1, now);
                 match inner {
-                    NodeRead::Past {
-                        next: after,
-                        found: more,
-                    } => {
-                        at = after.at;
-                        found = more;
+                    NodeRead::Past { next, found } => {
+                        at = next.at;
+                        all = found;
                     }
                     NodeRead::Stop { refusal: _, at: _ } => {
                         return inner;
@@ -222,7 +214,7 @@ fn contents(tree: &[u8], b: Blocks, from: usize, levels: usize, seen: Containers
                 }
             }
             Item::Close(next) => {
-                return NodeRead::Past { next, found };
+                return NodeRead::Past { next, found: all };
             }
             Item::Fault { refusal, at: p } => {
                 return NodeRead::Stop { refusal, at: p };

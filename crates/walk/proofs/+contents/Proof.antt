@@ -1,7 +1,7 @@
 -- `walk::contents`, which calls itself for each child, meets its contract. The loop's invariant is `Inside`; the levels left fall by one
 -- at each call. Assumes nothing.
 use borrow.Author.Needs.{needs}
-use mathlib.Core.Path.{_≡_, sym, ap, _∙_}
+use mathlib.Core.Path.{sym, ap, _∙_}
 use native.Mathlib.Omega.{arith}
 use Rattle.walk.specs.Walk.{mostLevels}
 use Rattle.walk.specs.Parts.{partOf}
