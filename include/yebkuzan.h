@@ -64,7 +64,9 @@ extern "C" {
 #define YEBKUZAN_MOST_FEATURES 64u      /* features of a record; positions are below it */
 #define YEBKUZAN_MOST_DEPENDENCIES 16u  /* dependencies of a feature */
 #define YEBKUZAN_SLOTS 1024u            /* dependency slots of a record: 16 to a feature */
-#define YEBKUZAN_HIGHEST_BIT 63u        /* the highest bit number of a feature */
+#define YEBKUZAN_HIGHEST_HFSCR_BIT 63u  /* the highest hfscr-bit-nr of a feature */
+#define YEBKUZAN_HIGHEST_FSCR_BIT 63u   /* the highest fscr-bit-nr of a feature */
+#define YEBKUZAN_HIGHEST_HWCAP_BIT 63u  /* the highest hwcap-bit-nr of a feature */
 #define YEBKUZAN_WORDS 1u               /* words of a set of positions */
 #define YEBKUZAN_TABLE_WORDS 64u        /* words of the rows of a reach table */
 #define YEBKUZAN_MOST_SIZES 16u         /* page or segment sizes of a table */

@@ -38,6 +38,7 @@ use Rattle.cases.specs.Demand1.{zeroSet, zeroSeen, zeroMembers, zeroSegm
 use Rattle.cases.proofs.EndLaws.{checks-end, checks-keep, fault-one-of}
 use Rattle.cases.proofs.TableNumbers.{sizeNumbers, sizes-numbered, segmentNumbers, segments-numbered, attributeNumbers, attributes-numbered}
 use Rattle.cases.proofs.LookupEnds.{of-lookup}
+use Rattle.cases.proofs.BlockEnds.{of-block, of-feature}
 
 -- a tree: by how its check and its reading end
 header-ends : {tree : List ℕ} {r : Placed Layout} → CheckEnds tree r → PlacedEnds tree 5 noBlocks (header tree)
@@ -149,4 +150,13 @@ of-line tree k buffer = record {
 }
 
 pub demand-1 : Demand1
-demand-1 = record { trees = of-tree; records = of-resolver; lookups = of-lookup; values = of-value; texts = of-unit; lines = of-line }
+demand-1 = record {
+  trees = of-tree;
+  records = of-resolver;
+  lookups = of-lookup;
+  values = of-value;
+  texts = of-unit;
+  lines = of-line;
+  blocks = of-block;
+  features = λ c phandles n phandle. of-feature phandles n phandle c;
+}

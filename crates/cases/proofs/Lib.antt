@@ -2,6 +2,7 @@ pub mod Marked
 pub mod EndLaws
 pub mod TableNumbers
 pub mod LookupEnds
+pub mod BlockEnds
 pub mod Demand1
 pub mod Demand3
 pub mod GraphLaws

@@ -11,8 +11,9 @@ use Rattle.lookup.specs.Lookup.{lookup, partOf}
 use Rattle.lookup.specs.Reasons.{BlockFault, token, name, repeated, LookupEnds, inCpu, inParent, notThere, faulty}
 use Rattle.lookup.proofs.Reasons.{lookup-ends}
 use Rattle.lookup.proofs.ReturnedPart.{in-cpu, in-parent}
+use Rattle.capi.specs.Properties.{partIn, findProperty}
 use Rattle.cases.specs.Ends.{Ends, answered, refused}
-use Rattle.cases.specs.Demand1.{Demand1Lookup}
+use Rattle.cases.specs.Demand1.{noPart, Demand1Lookup}
 
 -- the walk's 6, 7 or 9
 faulty-ends : {A : Type 0} {n : ℕ} (zeros : A) → BlockFault n → Ends (6 ∷ 7 ∷ 9 ∷ 10 ∷ []) zeros (record { number = n; value = zeros })
@@ -39,6 +40,12 @@ module _ (cpu parent strings sought : List ℕ) where
   part-ends notThere = refused 10 refl
   part-ends (faulty b) = faulty-ends [] b
 
+  find-ends : {f : Found} {n : ℕ} → LookupEnds f n → Ends (6 ∷ 7 ∷ 9 ∷ 10 ∷ []) noPart (record { number = n; value = partIn f })
+  find-ends inCpu = answered _
+  find-ends inParent = answered _
+  find-ends notThere = refused 10 refl
+  find-ends (faulty b) = faulty-ends noPart b
+
   -- the part of a property that is found has bytes
   found-part : {f : Found} {n : ℕ} → LookupEnds f n → lookup cpu parent strings sought ≡ f → (n ≡ 0) ↔ (partOf cpu parent f ≡ [] → ⊥)
   unfolding partOf
@@ -48,6 +55,7 @@ module _ (cpu parent strings sought : List ℕ) where
   found-part (faulty b) e = (λ z q. not-zero b z, λ q. absurd (q refl))
 
   pub of-lookup : Demand1Lookup cpu parent strings sought
+  unfolding findProperty
   of-lookup =
       let l = lookup-ends cpu parent strings sought in
-      record { whereEnds = where-ends l; partEnds = part-ends l; found = found-part l refl }
+      record { whereEnds = where-ends l; partEnds = part-ends l; findEnds = find-ends l; found = found-part l refl }

@@ -1,12 +1,16 @@
 -- Demand 1, in its own words: how each entry point ends, over the definitions that the promises cite. Lent bytes that are only read
 -- are kept by their type.
-use Prim.Native.Nat.{ℕ, _<_}
+use Prim.Native.Nat.{ℕ, _<_, min}
 use mathlib.Core.Path.{_≡_}
 use mathlib.Core.Bool.{true, false}
 use mathlib.Core.List.{List, [], _∷_}
 use mathlib.Core.Logic.{_↔_}
 use lib.ListN.{length, getD, replicate}
-use Rattle.refusal.specs.Refusal.{Outcome}
+use Rattle.refusal.specs.Refusal.{Outcome, numberOf}
+use Rattle.names.specs.Names.{nodeNameAt, propertyNameAt}
+use Rattle.tokens.specs.Steps.{stepAt, stepNumber}
+use Rattle.tokens.specs.Tokens.{tokens}
+use Rattle.properties.specs.Properties.{nameAt, givenBefore, nameFault, readProperties}
 use Rattle.unit.specs.Hex.{readHex, writeHex, afterHex}
 use Rattle.unit.specs.Unit.{readUnit, writeUnit, afterUnit}
 use Rattle.sizes.specs.Sizes.{noSizes, sizes}
@@ -19,10 +23,15 @@ use Rattle.walk.specs.Checked.{noLayout, checkTree}
 use Rattle.lookup.specs.declared.Found.{Found}
 use Rattle.lookup.specs.declared.Found.the-variants.{Nowhere}
 use Rattle.lookup.specs.Lookup.{lookup, reason, partOf}
+use Rattle.positions.specs.declared.Position.the-variants.{Nowhere as NoPosition, At}
+use Rattle.positions.specs.Below.{firstThat}
 use Rattle.positions.specs.Sets.{setWords}
 use Rattle.record.specs.declared.Record.{Record}
 use Rattle.record.specs.Record.{mostFeatures, noFeatures}
 use Rattle.form.specs.WellFormed.{wellFormed}
+use Rattle.feature.specs.declared.FeatureCells.{FeatureCells}
+use Rattle.feature.specs.Feature.{refusalOf}
+use Rattle.feature.specs.Phandles.{isAt}
 use Rattle.reading.specs.Features.{carries}
 use Rattle.nodes.specs.Nodes.{nodeAt}
 use Rattle.reading.specs.Reading.{readRecord}
@@ -36,8 +45,9 @@ use Rattle.reach.specs.Answers.{reachOf, enableByTable}
 use Rattle.chain.specs.Chain.{chain, afterChain}
 use Rattle.words.specs.Words.{noWords, words}
 use Rattle.capi.specs.Answers.{formNumber}
+use Rattle.capi.specs.Properties.{Part, findProperty}
 use Rattle.listing.specs.Listing.{writeLine, afterLine}
-use Rattle.cases.specs.Ends.{isOneOf, Ends, PlacedEnds, Keeps}
+use Rattle.cases.specs.Ends.{isOneOf, Ends, PlacedEnds, EndsAt, Keeps}
 
 -- the zeros of a set, of an examination, of a set with its count, of segment page sizes, of attribute bytes
 abbrev pub zeroSet : List ℕ
@@ -54,6 +64,9 @@ zeroSegments = record { count = 0; descriptors = replicate mostDescriptors noDes
 
 abbrev pub zeroBytes : PiTable
 zeroBytes = record { count = 0; bytes = replicate mostBytes 0 }
+
+abbrev pub noPart : Part
+noPart = record { block = 0; offset = 0; length = 0 }
 
 -- what the calls of a look-up answer: the reason, with where the property is, and with the part
 abbrev pub whereFound : List ℕ → List ℕ → List ℕ → List ℕ → Outcome Found
@@ -99,11 +112,49 @@ pub record Demand1Resolver (r : Record) (level : ℕ) (g : Grants) : Type 0 wher
   pub chainEnds : (i : ℕ) (buffer : List ℕ) → Ends (14 ∷ 15 ∷ 16 ∷ 17 ∷ 18 ∷ []) 0 (chain r level g i (length buffer))
   pub chainKeeps : (i : ℕ) (buffer : List ℕ) → Keeps (chain r level g i (length buffer)) buffer (afterChain r level g i buffer)
 
+-- what a block of tokens is made of, with names in a strings block: `node_name` and `property_name`, `Cursor::step`, `name_refusal` and
+-- `read_properties`
+pub record Demand1Block (s : List ℕ) (stop : ℕ) (strings : List ℕ) (from limit : ℕ) : Type 0 where
+  -- "name not as below": 7
+  pub nodeNameEnds : (at : ℕ) → Ends (7 ∷ []) 0 (nodeNameAt s at stop)
+  pub propertyNameEnds : (at : ℕ) → Ends (7 ∷ []) 0 (propertyNameAt s at stop)
+  -- "token unknown, out of place or cut short": 6
+  pub stepEnds : (at : ℕ) → isOneOf (0 ∷ 6 ∷ []) (stepNumber (stepAt s stop at)) ≡ true
+  -- 7, and "A property name repeated in one node is 9"
+  pub nameEnds : (first t offset : ℕ) → isOneOf (0 ∷ 7 ∷ 9 ∷ [])
+      (nameFault (nameAt strings from limit offset)
+      (givenBefore t (nameAt strings from limit offset) (tokens s stop (nameAt strings from limit) first))) ≡ true
+  pub propertiesEnd : (first : ℕ) → EndsAt (7 ∷ 9 ∷ []) 0 (readProperties stop [] (tokens s stop (nameAt strings from limit) first))
+
+-- the cells of a feature as read: `refusal_of` answers 0 or the number of one of them
+abbrev pub cellNumbers : FeatureCells → List ℕ
+cellNumbers c =
+    numberOf (c .isa .refusal)
+    ∷ numberOf (c .support .«usable_privilege» .refusal)
+    ∷ numberOf (c .support .«hv_support» .refusal)
+    ∷ numberOf (c .support .«os_support» .refusal)
+    ∷ numberOf (c .bits .«hfscr_bit_nr» .refusal)
+    ∷ numberOf (c .bits .«fscr_bit_nr» .refusal)
+    ∷ numberOf (c .bits .«hwcap_bit_nr» .refusal)
+    ∷ numberOf (c .phandle .refusal)
+    ∷ numberOf (c .dependencies .refusal)
+    ∷ []
+
+pub record Demand1Feature (c : FeatureCells) (phandles : List ℕ) (n phandle : ℕ) : Type 0 where
+  pub cellsEnd : isOneOf (0 ∷ cellNumbers c) (refusalOf c) ≡ true
+  -- "A phandle that isn't found is .. never a position": what `carrier_below` answers as a position is below the bound and has the
+  -- phandle; where it answers nowhere, no position below the bound has it
+  pub carrierHas : (i : ℕ) → firstThat (min n mostFeatures) (isAt phandles phandle) ≡ At i → (i < n) × (isAt phandles phandle i ≡ true)
+  pub nowhereNone : firstThat (min n mostFeatures) (isAt phandles phandle) ≡ NoPosition
+      → (i : ℕ) → i < min n mostFeatures → isAt phandles phandle i ≡ false
+
 -- `find_property`, `property_part` and `lookup_reason`: "0 when it is found, else the reason: the walk's 6, 7 or 9, .. then 10"
 pub record Demand1Lookup (cpu parent strings name : List ℕ) : Type 0 where
   pub whereEnds : Ends (6 ∷ 7 ∷ 9 ∷ 10 ∷ []) Nowhere (whereFound cpu parent strings name)
   -- "the empty part when neither has it or either block doesn't read as properties"
   pub partEnds : Ends (6 ∷ 7 ∷ 9 ∷ 10 ∷ []) [] (partFound cpu parent strings name)
+  -- the call of C, with the part in numbers
+  pub findEnds : Ends (6 ∷ 7 ∷ 9 ∷ 10 ∷ []) noPart (findProperty cpu parent strings name)
   pub found : (reason cpu parent strings name ≡ 0) ↔ (partFound cpu parent strings name .value ≡ [] → ⊥)
 
 -- `page_sizes` and `segment_sizes`, `segment_page_sizes`, `pa_features`, `pi_features` and `bus_frequency`, of a value
@@ -141,3 +192,5 @@ pub record Demand1 : Type 0 where
   pub values : (value : List ℕ) → Demand1Value value
   pub texts : (text : List ℕ) (n : ℕ) (buffer : List ℕ) → Demand1Unit text n buffer
   pub lines : (tree : List ℕ) (k : ℕ) (buffer : List ℕ) → Demand1Line tree k buffer
+  pub blocks : (s : List ℕ) (stop : ℕ) (strings : List ℕ) (from limit : ℕ) → Demand1Block s stop strings from limit
+  pub features : (c : FeatureCells) (phandles : List ℕ) (n phandle : ℕ) → Demand1Feature c phandles n phandle

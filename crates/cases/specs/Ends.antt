@@ -24,6 +24,11 @@ pub data PlacedEnds {A : Type 0} (tree : List ℕ) (highest : ℕ) (zeros : A) :
   refusedAt : (number place : ℕ) → 1 ≤ number → number ≤ highest → place ≤ length tree
       → PlacedEnds tree highest zeros (refuseAt zeros (fault number place))
 
+-- the same of a block of tokens: the numbers are those that document 01 lists for the call, at any place
+pub data EndsAt {A : Type 0} (numbers : List ℕ) (zeros : A) : Placed A → Type 0 where
+  answeredThere : (value : A) → EndsAt numbers zeros (placed value)
+  refusedThere : (number place : ℕ) → isOneOf numbers number ≡ true → EndsAt numbers zeros (refuseAt zeros (fault number place))
+
 -- "A refusal changes no byte of the caller's buffers": what a lent buffer holds at entry and at exit
 abbrev pub Keeps : {A : Type 0} → Outcome A → List ℕ → List ℕ → Type 0
 Keeps o entry exit = (o .number ≡ 0 → ⊥) → exit ≡ entry

@@ -391,6 +391,10 @@ pub node-name-either : (s : List ℕ) (from end : ℕ) → ((n : ℕ) × (nodeNa
 unfolding nodeNameAt
 node-name-either s from end = name-either isNodeName (textAt s from end)
 
+pub property-name-either : (s : List ℕ) (from end : ℕ) → ((n : ℕ) × (propertyNameAt s from end ≡ answer n)) ⊎ (propertyNameAt s from end ≡ refuse 0 7)
+unfolding propertyNameAt
+property-name-either s from end = name-either isPropertyName (textAt s from end)
+
 pub node-name-good : (s : List ℕ) (from end n : ℕ) → nodeNameAt s from end ≡ answer n → NameGood isNodeName s from end n
 unfolding nodeNameAt
 node-name-good s from end n e = name-read isNodeName s from end n e
