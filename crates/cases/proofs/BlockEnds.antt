@@ -1,31 +1,31 @@
 -- Demand 1 of the parts of a block of tokens and of a feature, for all bytes and numbers. Assumes nothing.
 use Prim.Native.Nat.{ℕ, zero, suc, min}
 use mathlib.Core.Path.{_≡_, refl, sym, subst}
-use mathlib.Core.Bool.{Bool, true, false, _||_, cond}
+use mathlib.Core.Bool.{Bool, true, false, _||_}
 use mathlib.Core.List.{List, [], _∷_, _++_}
 use mathlib.Core.Logic.{_⊎_, inl, inr}
 use native.Mathlib.Omega.{arith}
-use lib.Dec.{eqb, eqb-refl}
-use Rattle.refusal.specs.Refusal.{Outcome, answer, refuse, numberOf}
+use borrow.Author.Tests.{eq-eqb}
+use lib.Dec.{eqb}
+use Rattle.refusal.specs.Refusal.{Outcome, answer, refuse}
 use Rattle.refusal.specs.Checks.{firstFault}
 use Rattle.strings.specs.Strings.{Text}
 use Rattle.names.specs.Names.{isPropertyName}
 use Rattle.names.proofs.NameLaws.{node-name-either, property-name-either}
-use Rattle.tokens.specs.Steps.{pick, stepNumber, stepAt, tokenChecks}
+use Rattle.tokens.specs.Steps.{pick, tokenChecks}
 use Rattle.tokens.specs.Tokens.{Token, beginNode, endNode, property, nop, end, fault, tokens}
 use Rattle.tokens.proofs.StepNumbers.{step-number}
 use Rattle.properties.specs.Properties.{among, nameAt, nameFault, readProperties}
 use Rattle.positions.specs.declared.Position.{Position}
-use Rattle.positions.specs.declared.Position.the-variants.{Nowhere, At}
 use Rattle.positions.specs.Below.{firstThat}
 use Rattle.positions.proofs.FirstLaws.{IsFirst, first-that}
 use Rattle.record.specs.Record.{mostFeatures}
 use Rattle.feature.specs.declared.FeatureCells.{FeatureCells}
-use Rattle.feature.specs.Feature.{firstOf, refusalOf}
+use Rattle.feature.specs.Feature.{firstOf}
 use Rattle.feature.specs.Phandles.{isAt}
 use Rattle.cases.specs.Ends.{isOneOf, Ends, answered, refused, EndsAt, answeredThere, refusedThere}
 use Rattle.cases.specs.Demand1.{Demand1Block, cellNumbers, Demand1Feature}
-use Rattle.cases.proofs.EndLaws.{fault-one-of}
+use Rattle.cases.proofs.EndLaws.{or-true, fault-one-of}
 
 -- a name: how many characters it has, or 7
 name-ends : {o : Outcome ℕ} → ((n : ℕ) × (o ≡ answer n)) ⊎ (o ≡ refuse 0 7) → Ends (7 ∷ []) 0 o
@@ -68,14 +68,22 @@ of-block s stop strings from limit = record {
   propertiesEnd = λ first. properties-end stop [] (tokens s stop (nameAt strings from limit) first);
 }
 
--- the first refusal of two is one of both
-first-one : (a : ℕ) {ns : List ℕ} {r : ℕ} → isOneOf (0 ∷ ns) r ≡ true → isOneOf (0 ∷ a ∷ ns) (firstOf a r) ≡ true
-first-one zero {ns} {r} h = go (eqb r 0) h
+-- the first of some numbers that is a refusal is 0 or one of them
+abbrev firstOfAll : List ℕ → ℕ
+firstOfAll [] = 0
+firstOfAll (n ∷ ns) = firstOf n (firstOfAll ns)
+
+one-more : (a : ℕ) (ns : List ℕ) (r : ℕ) → isOneOf (0 ∷ ns) r ≡ true → isOneOf (0 ∷ a ∷ ns) (firstOf a r) ≡ true
+one-more zero ns r h = go (eqb r 0) h
   where
     go : (b : Bool) → b || isOneOf ns r ≡ true → b || (b || isOneOf ns r) ≡ true
     go true e = refl
     go false e = e
-first-one (suc a) h = rw (eqb-refl (suc a))
+one-more (suc a) ns r h = rw (eq-eqb (suc a) (suc a) refl) (or-true (eqb (suc a) 0))
+
+all-one : (ns : List ℕ) → isOneOf (0 ∷ ns) (firstOfAll ns) ≡ true
+all-one [] = refl
+all-one (n ∷ ns) = one-more n ns (firstOfAll ns) (all-one ns)
 
 module _ (phandles : List ℕ) (n phandle : ℕ) where
   -- the position found is the first that has it
@@ -84,7 +92,7 @@ module _ (phandles : List ℕ) (n phandle : ℕ) where
 
   pub of-feature : (c : FeatureCells) → Demand1Feature c phandles n phandle
   of-feature c = record {
-    cellsEnd = first-one _ (first-one _ (first-one _ (first-one _ (first-one _ (first-one _ (first-one _ (first-one _ (first-one _ refl))))))));
+    cellsEnd = all-one (cellNumbers c);
     carrierHas = λ i e. let f = found e in (omega (arith, f .0), f .1);
     nowhereNone = λ e. found e;
   }

@@ -50,7 +50,7 @@ pub checks-keep : {A : Type 0} (zeros value : A) (entry exit : List ℕ) (cs : L
 checks-keep zeros value entry exit cs h = fault-refuses (λ (n : ℕ). entry) cs exit (λ e. h (outcome-number zeros value cs ∙ e))
 
 -- the number alone
-or-true : (b : Bool) → b || true ≡ true
+pub or-true : (b : Bool) → b || true ≡ true
 or-true true = refl
 or-true false = refl
 
