@@ -2,14 +2,13 @@
 use mathlib.Core.Path.{_≡_, refl, sym, ap, _∙_}
 use mathlib.Core.Bool.{Bool, true, false, not}
 use mathlib.Core.List.{List, [], _∷_, _++_}
-use Prim.Native.Nat.{ℕ, _+_, _-_, _*_, _%_, _<_, _≤_, min}
-use native.Mathlib.Numerals.{add-one}
+use Prim.Native.Nat.{ℕ, _+_, _-_, _*_, _/_, _%_, _<_, _≤_, min}
 use native.Mathlib.Omega.{arith}
 use native.Mathlib.Decide.{decLe, ℕ-discrete}
 use borrow.Author.Tests.{le-leb, lt-leb}
 use lib.Dec.{eqb}
-use lib.ListN.{length, getD, set, take, drop, length-set, drop-of-length-le}
-use lib.Seq.{drop-cons, set-out, getD-set-same, getD-set-other}
+use lib.ListN.{length, getD, set, take, drop, length-set}
+use lib.Seq.{set-out, getD-set-same, getD-set-other}
 use Rattle.refusal.specs.Refusal.{answer, refuse}
 use Rattle.strings.specs.Strings.{Text, ended, unended, textAt}
 use Rattle.strings.proofs.Strings.{text-taken, same-true}
@@ -21,14 +20,17 @@ use Rattle.properties.specs.Properties.{nameAt, among, givenBefore, name
 use Rattle.properties.specs.Marks.{markFrom, markOf, isSet, withMark}
 use Rattle.properties.proofs.LookBack.{here, good-fault, name-given}
 
--- the mark of what is left
-pub mark-more : (s : List ℕ) (m i : ℕ) → i < length s → markFrom ((m * 13 + getD s i 0) % 4294967296) (drop (i + 1) s) ≡ markFrom m (drop i s)
+-- no characters
+pub mark-empty : (s : List ℕ) → length s ≡ 0 → 0 ≡ markFrom s
 unfolding markFrom
-mark-more s m i h = rw (add-one i, drop-cons s i 0 h)
+mark-empty [] h = refl
+mark-empty (c ∷ cs) h = absurd (omega arith)
 
-pub mark-done : (s : List ℕ) (m i : ℕ) → length s ≤ i → m % 256 ≡ markFrom m (drop i s)
+-- four of them, as the code reads them
+pub mark-some : (s : List ℕ) {a b c d : ℕ} → a ≡ getD s 0 0 → b ≡ getD s (length s / 3) 0 → c ≡ getD s (length s - 1 - length s / 3) 0 → d ≡ getD s (length s - 1) 0
+    → (length s % 256 * 37 + a * 59 + b * 5 + c * 13 + d * 17) % 256 ≡ markFrom s
 unfolding markFrom
-mark-done s m i h = rw (drop-of-length-le s h)
+mark-some s e f g h = rw (e, f, g, h)
 
 -- a mark past the end, and one within
 module _ (marks : List ℕ) (mark : ℕ) where
@@ -49,12 +51,12 @@ given-number g k = ap (λ (b : Bool). pick {A = ℕ} b 9 0) (sym k ∙ g)
 
 -- a good name: its mark is that of its bytes, and it is looked back for where that mark is set
 module _ (bytes : List ℕ) (from limit offset : ℕ) {place : ℕ} (q : place ≡ min limit (from + offset)) {n : ℕ} (e : propertyNameAt bytes place limit ≡ answer n) where
-  pub mark-read : {mark : ℕ} → mark ≡ markFrom 0 (take (place + n - place) (drop place bytes)) → mark ≡ markOf (nameAt bytes from limit offset)
+  pub mark-read : {mark : ℕ} → mark ≡ markFrom (take (place + n - place) (drop place bytes)) → mark ≡ markOf (nameAt bytes from limit offset)
   unfolding markOf
   mark-read k =
       let g = property-name-good bytes place limit n e in
       let l : place + n - place ≡ length (g .characters) = omega (arith, g .long) in
-      k ∙ ap (λ (m : ℕ). markFrom 0 (take m (drop place bytes))) l ∙ ap (markFrom 0) (text-taken bytes place limit (g .characters) (g .text)) ∙ ap markOf (sym (g .text) ∙ here bytes from limit offset q)
+      k ∙ ap (λ (m : ℕ). markFrom (take m (drop place bytes))) l ∙ ap markFrom (text-taken bytes place limit (g .characters) (g .text)) ∙ ap markOf (sym (g .text) ∙ here bytes from limit offset q)
 
   module _ (marks : List ℕ) {mark : ℕ} (m : mark ≡ markOf (nameAt bytes from limit offset)) where
     pub mark-put : {later : List ℕ} → later ≡ set marks mark 1 → later ≡ withMark (nameAt bytes from limit offset) marks

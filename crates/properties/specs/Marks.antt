@@ -1,9 +1,9 @@
 -- What the private functions that keep marks answer. A mark is a small number of a name's characters. Equal names have equal marks, so
 -- that a name whose mark is new in its node has not been given there. The promises of the public functions rest on `Properties`, not on
 -- this file.
-use Prim.Native.Nat.{ℕ, _+_, _*_, _%_, _^_}
+use Prim.Native.Nat.{ℕ, _+_, _-_, _*_, _/_, _%_}
 use mathlib.Core.Bool.{Bool, not}
-use mathlib.Core.List.{List, [], _∷_}
+use mathlib.Core.List.{List}
 use lib.Dec.{eqb, leb}
 use lib.ListN.{length, getD, set}
 use Rattle.strings.specs.Strings.{Text, ended, unended}
@@ -14,13 +14,14 @@ use Rattle.tokens.specs.Steps.{pick}
 abbrev pub markCount : ℕ
 markCount = 256
 
--- the mark of characters behind some whose number is m
-unfoldable pub markFrom : ℕ → List ℕ → ℕ
-markFrom m [] = m % markCount
-markFrom m (c ∷ cs) = markFrom ((m * 13 + c) % 2 ^ 32) cs
+-- the mark of a name's characters: of how many there are, and of the first, the last and two between them
+unfoldable pub markFrom : List ℕ → ℕ
+markFrom cs =
+    let n = length cs in
+    (n % markCount * 37 + getD cs 0 0 * 59 + getD cs (n / 3) 0 * 5 + getD cs (n - 1 - n / 3) 0 * 13 + getD cs (n - 1) 0 * 17) % markCount
 
 unfoldable pub markOf : Text → ℕ
-markOf (ended cs) = markFrom 0 cs
+markOf (ended cs) = markFrom cs
 markOf unended = 0
 
 -- a mark is set among marks; one past their end counts as set

@@ -4,7 +4,7 @@ use refusal::Refusal;
 use tokens::Cursor;
 use tokens::Step;
 ghost use mathlib.Core.Path.{_≡_};
-ghost use Prim.Native.Nat.{_+_, min};
+ghost use Prim.Native.Nat.{_+_, _<_, min};
 ghost use mathlib.Core.List.{[]};
 ghost use lib.ListN.{set};
 ghost use Rattle.strings.specs.Strings.{textAt, ended};
@@ -114,17 +114,30 @@ fn given(
 // How many marks there are.
 const MARKS: usize = 256;
 
-// The mark of a name, one step for each character. Equal names have equal marks.
-fn mark_of(name: &[u8]) -> usize
-    ensures { λ r. ⌜ r ≡ markFrom 0 (now (name .entry)) ⌝ }
+fn wide(x: u8) -> usize
+    ensures { λ r. ⌜ (r ≡ x) × (r < 256) ⌝ }
 {
-    let mut m: usize = 0;
-    let mut i: usize = 0;
-    while i < name.len() {
-        m = (m * 13 + name[i] as usize) % 4294967296;
-        i += 1;
+    x as usize
+}
+
+// The mark of a name, from its length and four of its characters. Equal names have equal marks, and among the names of a real node few
+// others have; the factors were chosen for that.
+fn mark_of(name: &[u8]) -> usize
+    ensures { λ r. ⌜ r ≡ markFrom (now (name .entry)) ⌝ }
+{
+    let n = name.len();
+    if n == 0 {
+        return 0;
     }
-    m % MARKS
+    let third = n / 3;
+    let low = n - 1 - third;
+    let last = n - 1;
+    (n % MARKS * 37
+        + wide(name[0]) * 59
+        + wide(name[third]) * 5
+        + wide(name[low]) * 13
+        + wide(name[last]) * 17)
+        % MARKS
 }
 
 // Whether a mark is set; it is set from then on. One past the end counts as set.

@@ -1,59 +1,98 @@
--- `properties::mark_of` meets its contract: what is left of the name decides its mark. Assumes nothing.
+-- `properties::mark_of` meets its contract. Assumes nothing.
+use Rattle.properties.proofs.MarkLaws.{mark-empty, mark-some}
 use borrow.Author.Needs.{needs}
-use mathlib.Core.Path.{_≡_, refl, _∙_}
-use native.Mathlib.Omega.{arith}
-use Prim.Native.Nat.{_-_, _<_}
-use lib.ListN.{length, drop}
-use Rattle.properties.specs.Marks.{markFrom}
-use Rattle.properties.proofs.MarkLaws.{mark-more, mark-done}
 use Rattle.properties.proofs.mark_of.Statement.{statement}
 use Rattle.properties.proofs.mark_of.Tie as tie
 
-abbrev Inv-loop : tie.InvT-loop
-Inv-loop name m₀ i₀ m i = (m < 4294967296) × (markFrom m (drop i name) ≡ markFrom 0 name)
+returns : tie.Need-returns
+returns c = mark-empty _ (c .if1 .taken)
 
-abbrev μ-loop : tie.MeasureT-loop
-μ-loop name m₀ i₀ m i = length name - i
+sub-low : tie.Need-sub-low
+sub-low c = search needs
 
-loop-holds : tie.Need-loop-holds Inv-loop μ-loop
-loop-holds c = (omega arith, refl)
+sub-low-2 : tie.Need-sub-low-2
+sub-low-2 c = search needs
 
-mul-m : tie.Need-mul-m Inv-loop μ-loop
-mul-m c = search needs
+sub-last : tie.Need-sub-last
+sub-last c = search needs
 
-shared-slice-read-m : tie.Need-shared-slice-read-m Inv-loop μ-loop
-shared-slice-read-m c = search needs
+mul-result : tie.Need-mul-result
+mul-result c = search needs
 
-cast-m : tie.Need-cast-m Inv-loop μ-loop
-cast-m c = omega (arith, c .shared-slice-known .given (c .before .before .loop .i))
+shared-slice-read-wide : tie.Need-shared-slice-read-wide
+shared-slice-read-wide c = search needs
 
-add-m : tie.Need-add-m Inv-loop μ-loop
-add-m c = omega (arith, c .shared-slice-known .given (c .before .before .loop .i))
+wide-requires : tie.Need-wide-requires
+wide-requires c κs = search needs
 
-add-i : tie.Need-add-i Inv-loop μ-loop
-add-i c = search needs
+mul-result-2 : tie.Need-mul-result-2
+mul-result-2 c = search needs
 
-loop-less : tie.Need-loop-less Inv-loop μ-loop
-loop-less c = search needs
+add-result : tie.Need-add-result
+add-result c = search needs
 
-loop-again : tie.Need-loop-again Inv-loop μ-loop
-loop-again c = let l = c .before .before .loop in (omega arith, mark-more (c .before .before .before .args .name .now) (l .m) (l .i) (omega arith) ∙ l .inv .1)
+shared-slice-read-wide-2 : tie.Need-shared-slice-read-wide-2
+shared-slice-read-wide-2 c = search needs
 
-returns : tie.Need-returns Inv-loop μ-loop
-returns c = let l = c .before .loop in mark-done (c .before .before .args .name .now) (l .m) (l .i) (omega arith) ∙ l .inv .1
+wide-requires-2 : tie.Need-wide-requires-2
+wide-requires-2 c κs = search needs
+
+mul-result-3 : tie.Need-mul-result-3
+mul-result-3 c = search needs
+
+add-result-2 : tie.Need-add-result-2
+add-result-2 c = search needs
+
+shared-slice-read-wide-3 : tie.Need-shared-slice-read-wide-3
+shared-slice-read-wide-3 c = search needs
+
+wide-requires-3 : tie.Need-wide-requires-3
+wide-requires-3 c κs = search needs
+
+mul-result-4 : tie.Need-mul-result-4
+mul-result-4 c = search needs
+
+add-result-3 : tie.Need-add-result-3
+add-result-3 c = search needs
+
+shared-slice-read-wide-4 : tie.Need-shared-slice-read-wide-4
+shared-slice-read-wide-4 c = search needs
+
+wide-requires-4 : tie.Need-wide-requires-4
+wide-requires-4 c κs = search needs
+
+mul-result-5 : tie.Need-mul-result-5
+mul-result-5 c = search needs
+
+add-result-4 : tie.Need-add-result-4
+add-result-4 c = search needs
+
+returns-2 : tie.Need-returns-2
+returns-2 c = mark-some _ (c .before .before .before .before .before .before .wide .ensures .0) (c .before .before .before .before .wide2 .ensures .0) (c .before .before .wide3 .ensures .0) (c .wide4 .ensures .0)
 
 pub mark-of-spec : {M : Type 1} → statement M
 mark-of-spec =
     tie.close
     (tie.spec
-    Inv-loop
-    μ-loop
-    loop-holds
-    mul-m
-    shared-slice-read-m
-    cast-m
-    add-m
-    add-i
-    loop-less
-    loop-again
-    returns)
+    returns
+    sub-low
+    sub-low-2
+    sub-last
+    mul-result
+    shared-slice-read-wide
+    wide-requires
+    mul-result-2
+    add-result
+    shared-slice-read-wide-2
+    wide-requires-2
+    mul-result-3
+    add-result-2
+    shared-slice-read-wide-3
+    wide-requires-3
+    mul-result-4
+    add-result-3
+    shared-slice-read-wide-4
+    wide-requires-4
+    mul-result-5
+    add-result-4
+    returns-2)
