@@ -49,7 +49,7 @@ use Rattle.capi.specs.Properties.{Part, findProperty}
 use Rattle.listing.specs.Listing.{writeLine, afterLine}
 use Rattle.cases.specs.Ends.{isOneOf, Ends, PlacedEnds, EndsAt, Keeps}
 
--- the zeros of a set, of an examination, of a set with its count, of segment page sizes, of attribute bytes
+-- the zeros of a set, of an examination, of a set with its count, of segment page sizes, of attribute bytes, of a property's part
 abbrev pub zeroSet : List ℕ
 zeroSet = replicate setWords 0
 
