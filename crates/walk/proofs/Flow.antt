@@ -223,7 +223,7 @@ module _ (levels : ℕ) (some : 0 < levels) (few : levels < mostLevels) (s : Lis
         subst (λ (l : ℕ). walk (b .end) (inProperties l []) (treeTokens s b next) ≡ refused (numberOf refusal) p) deeper
         (subst (Reads s b (inProperties (mostLevels - (levels - 1)) []) next now (parentOf (mostLevels - (levels - 1)))) e r)
 
--- an answer that stops
-pub stops-again : (s : List ℕ) (b : Blocks) (q : State) (from : ℕ) (seen : Containers) (r : State) {inner : NodeRead} {refusal : Refusal} {p : ℕ} → inner ≡ Stop refusal p
+-- an answer that stops, as the code has it
+pub stops-with : (s : List ℕ) (b : Blocks) (q : State) (from : ℕ) (seen : Containers) (r : State) {inner : NodeRead} {refusal : Refusal} {p : ℕ} → inner ≡ Stop refusal p
     → walk (b .end) q (treeTokens s b from) ≡ refused (numberOf refusal) p → Reads s b q from seen r inner
-stops-again s b q from seen r e w = subst (Reads s b q from seen r) (sym e) w
+stops-with s b q from seen r e w = subst (Reads s b q from seen r) (sym e) w

@@ -20,9 +20,7 @@ use Rattle.tokens.specs.Tokens.{Token, beginNode, endNode, property, nop, end, 
 use Rattle.tokens.proofs.TokenList.{Is, stops, seen, tokens-step, nop-moves, begin-moves}
 use Rattle.walk.specs.Walk.{State, beforeRoot, inProperties, afterRoot, Verdict, refused, stop, step, walk, nameIn, treeTokens}
 use Rattle.walk.specs.declared.Containers.{Containers}
-use Rattle.walk.specs.declared.NodeRead.{NodeRead}
-use Rattle.walk.specs.declared.NodeRead.the-variants.{Stop}
-use Rattle.walk.specs.Parts.{none, notes, Passed, Reads, Ends}
+use Rattle.walk.specs.Parts.{none, notes, Passed, Ends}
 use Rattle.walk.proofs.Fold.{walk-on, walk-stop}
 use Rattle.walk.proofs.Flow.{notes-append}
 
@@ -143,10 +141,6 @@ module _ {s : List ℕ} {b : Blocks} {from at : ℕ} (g : Outside s b afterRoot 
     pub last-fault : stepAt s (b .end) at ≡ Fault t → Ends s b from (numberOf x) p
     unfolding step
     last-fault e = ends-refused r (outside-stops g (fault t) [] (tokens-step s (b .end) (nameIn s b) at e) refl)
-
--- an answer that stops, as the code has it
-pub stops-with : (s : List ℕ) (b : Blocks) (q r : State) (from : ℕ) (c : Containers) {t : ℕ} {x : NodeRead} → x ≡ Stop TokenFault t → walk (b .end) q (treeTokens s b from) ≡ refused 6 t → Reads s b q from c r x
-stops-with s b q r from c e w = subst (Reads s b q from c r) (sym e) w
 
 end-is : {s : List ℕ} {stop at t : ℕ} → Is s stop at (End t) → (t ≡ at) × (at + 4 ≤ stop)
 end-is (stops h k) = (refl, h)

@@ -100,23 +100,10 @@ fn child_item(tree: &[u8], b: Blocks, t: usize, from: usize) -> Item
     }
 }
 
-// A seventeenth level.
-fn too_deep(at: usize) -> NodeRead
-    ensures { λ r. ⌜ r ≡ NodeRead.Stop Refusal.TooMany at ⌝ }
+fn stopped(refusal: Refusal, at: usize) -> NodeRead
+    ensures { λ r. ⌜ r ≡ NodeRead.Stop refusal at ⌝ }
 {
-    NodeRead::Stop {
-        refusal: Refusal::TooMany,
-        at,
-    }
-}
-
-fn stopped(at: usize) -> NodeRead
-    ensures { λ r. ⌜ r ≡ NodeRead.Stop Refusal.Token at ⌝ }
-{
-    NodeRead::Stop {
-        refusal: Refusal::Token,
-        at,
-    }
+    NodeRead::Stop { refusal, at }
 }
 
 fn misplaced(at: usize) -> Item
@@ -186,8 +173,7 @@ fn contents(tree: &[u8], b: Blocks, from: usize, levels: usize, seen: Containers
     let read = properties_at(tree, b, from);
     let refusal = read.refusal;
     if refusal::number(refusal) != 0 {
-        let at = read.place;
-        return NodeRead::Stop { refusal, at };
+        return stopped(refusal, read.place);
     }
     let mut at = read.behind;
     let mut all = seen;
@@ -199,7 +185,7 @@ fn contents(tree: &[u8], b: Blocks, from: usize, levels: usize, seen: Containers
             }
             Item::Child(child) => {
                 if levels == 0 {
-                    return too_deep(child.at);
+                    return stopped(Refusal::TooMany, child.at);
                 }
                 let now = noted(all, tree, child.at, child.name, child.length);
                 let inner = contents(tree, b, child.next.at, levels - 1, now);
@@ -217,7 +203,7 @@ fn contents(tree: &[u8], b: Blocks, from: usize, levels: usize, seen: Containers
                 return NodeRead::Past { next, found: all };
             }
             Item::Fault { refusal, at: p } => {
-                return NodeRead::Stop { refusal, at: p };
+                return stopped(refusal, p);
             }
         }
     }
@@ -250,13 +236,10 @@ fn root_at(tree: &[u8], b: Blocks, start: usize) -> NodeRead
                         found: NO_CONTAINERS,
                     };
                 }
-                return NodeRead::Stop {
-                    refusal: Refusal::Name,
-                    at: t,
-                };
+                return stopped(Refusal::Name, t);
             }
             Step::EndNode { at: t, next: _ } => {
-                return stopped(t);
+                return stopped(Refusal::Token, t);
             }
             Step::Property {
                 at: t,
@@ -265,13 +248,13 @@ fn root_at(tree: &[u8], b: Blocks, start: usize) -> NodeRead
                 name: _,
                 next: _,
             } => {
-                return stopped(t);
+                return stopped(Refusal::Token, t);
             }
             Step::End { at: t } => {
-                return stopped(t);
+                return stopped(Refusal::Token, t);
             }
             Step::Fault { at: t } => {
-                return stopped(t);
+                return stopped(Refusal::Token, t);
             }
         }
     }

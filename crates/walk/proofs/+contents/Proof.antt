@@ -5,7 +5,7 @@ use mathlib.Core.Path.{sym, ap, _∙_}
 use native.Mathlib.Omega.{arith}
 use Rattle.walk.specs.Walk.{mostLevels}
 use Rattle.walk.specs.Parts.{partOf}
-use Rattle.walk.proofs.Flow.{Inside, part-is, inside-begins, properties-stop, inside-skip, skip-moves, inside-close, inside-stop, inside-deep, inside-child, inside-child-stops, child-moves, inner-past, inner-stops, stops-again}
+use Rattle.walk.proofs.Flow.{Inside, part-is, inside-begins, properties-stop, inside-skip, skip-moves, inside-close, inside-stop, inside-deep, inside-child, inside-child-stops, child-moves, inner-past, inner-stops, stops-with}
 use Prim.Native.Nat.{ℕ, _-_, _<_}
 use borrow.Fn.Kinds.{In}
 use borrow.Fn.PlainCycle.{Measures, is, falls, and}
@@ -16,7 +16,7 @@ use Rattle.refusal.proofs.number.Reads as number-reads
 use Rattle.walk.proofs.item_at.Reads as item-at-reads
 use Rattle.walk.proofs.noted.Reads as noted-reads
 use Rattle.walk.proofs.properties_at.Reads as properties-at-reads
-use Rattle.walk.proofs.too_deep.Reads as too-deep-reads
+use Rattle.walk.proofs.stopped.Reads as stopped-reads
 use Rattle.walk.proofs.+contents.{statement}
 use Rattle.walk.proofs.+contents.Tie.{close}
 
@@ -42,10 +42,10 @@ claims t = (
   properties-at-reads.Learnt,
   number-reads.Asked,
   number-reads.Learnt,
+  stopped-reads.Asked,
+  stopped-reads.Learnt,
   item-at-reads.Asked,
   item-at-reads.Learnt,
-  too-deep-reads.Asked,
-  too-deep-reads.Learnt,
   noted-reads.Asked,
   noted-reads.Learnt,
   contents-below t,
@@ -58,8 +58,11 @@ contents-properties-at-requires t c κs = search needs
 contents-number-requires : (t : ℕ) → contents-lts.Need-number-requires (claims t) (contents-at t) contents.Post contents-Inv-loop contents-μ-loop
 contents-number-requires t c κs = search needs
 
+contents-stopped-requires : (t : ℕ) → contents-lts.Need-stopped-requires (claims t) (contents-at t) contents.Post contents-Inv-loop contents-μ-loop
+contents-stopped-requires t c κs = search needs
+
 contents-returns : (t : ℕ) → contents-lts.Need-returns (claims t) (contents-at t) contents.Post contents-Inv-loop contents-μ-loop
-contents-returns t c = properties-stop _ (c .before .before .before .before .args .b) _ _ (c .before .before .properties-at .result) (c .before .before .properties-at .ensures) (c .before .number .ensures) (c .if1 .taken)
+contents-returns t c = stops-with _ _ _ _ _ _ (c .stopped .ensures) (properties-stop _ (c .before .before .before .before .before .args .b) _ _ (c .before .before .before .properties-at .result) (c .before .before .before .properties-at .ensures) (c .before .before .number .ensures) (c .before .if1 .taken))
 
 contents-loop-holds : (t : ℕ) → contents-lts.Need-loop-holds (claims t) (contents-at t) contents.Post contents-Inv-loop contents-μ-loop
 contents-loop-holds t c = (c .before .before .before .before .pre .1, inside-begins _ _ _ _ (c .before .before .properties-at .result) (c .before .before .properties-at .ensures) (c .before .number .ensures) _ (c .if1 .left))
@@ -79,11 +82,11 @@ contents-loop-again t c = let l = c .before .before .before .before .loop .inv i
 contents-enum-known-item-2 : (t : ℕ) → contents-lts.Need-enum-known-item-2 (claims t) (contents-at t) contents.Post contents-Inv-loop contents-μ-loop
 contents-enum-known-item-2 t c = search needs
 
-contents-too-deep-requires : (t : ℕ) → contents-lts.Need-too-deep-requires (claims t) (contents-at t) contents.Post contents-Inv-loop contents-μ-loop
-contents-too-deep-requires t c κs = search needs
+contents-stopped-requires-2 : (t : ℕ) → contents-lts.Need-stopped-requires-2 (claims t) (contents-at t) contents.Post contents-Inv-loop contents-μ-loop
+contents-stopped-requires-2 t c κs = search needs
 
 contents-returns-2 : (t : ℕ) → contents-lts.Need-returns-2 (claims t) (contents-at t) contents.Post contents-Inv-loop contents-μ-loop
-contents-returns-2 t c = stops-again _ _ _ _ _ _ (c .too-deep .ensures) (inside-deep (c .before .before .before .before .before .before .loop .inv .1) (part-is _ _ _ (sym (c .before .before .before .before .before .item-at .ensures) ∙ ap partOf (c .before .before .before .item2 .given .1))) (omega (arith, c .before .if2 .taken)))
+contents-returns-2 t c = stops-with _ _ _ _ _ _ (c .stopped2 .ensures) (inside-deep (c .before .before .before .before .before .before .loop .inv .1) (part-is _ _ _ (sym (c .before .before .before .before .before .item-at .ensures) ∙ ap partOf (c .before .before .before .item2 .given .1))) (omega (arith, c .before .if2 .taken)))
 
 contents-noted-requires : (t : ℕ) → contents-lts.Need-noted-requires (claims t) (contents-at t) contents.Post contents-Inv-loop contents-μ-loop
 contents-noted-requires t c κs = let m = child-moves (part-is _ _ _ (sym (c .before .before .before .before .item-at .ensures) ∙ ap partOf (c .before .before .item2 .given .1))) in m .2
@@ -117,7 +120,7 @@ contents-returns-3 : (t : ℕ) → contents-lts.Need-returns-3 (claims t) (conte
 contents-returns-3 t c =
     let l = c .before .before .before .before .before .before .before .before .before .loop .inv in
     let r = inner-stops _ (omega (arith, c .before .before .before .before .if2 .left)) (l .0) _ _ _ _ (c .before .before .contents .ensures) (c .enum-told .given .1) in
-    stops-again _ _ _ _ _ _ (c .enum-told .given .1) (inside-child-stops (l .1) (omega (arith, c .before .before .before .before .if2 .left)) (part-is _ _ _ (sym (c .before .before .before .before .before .before .before .before .item-at .ensures) ∙ ap partOf (c .before .before .before .before .before .before .item2 .given .1))) r)
+    stops-with _ _ _ _ _ _ (c .enum-told .given .1) (inside-child-stops (l .1) (omega (arith, c .before .before .before .before .if2 .left)) (part-is _ _ _ (sym (c .before .before .before .before .before .before .before .before .item-at .ensures) ∙ ap partOf (c .before .before .before .before .before .before .item2 .given .1))) r)
 
 contents-enum-known-item-3 : (t : ℕ) → contents-lts.Need-enum-known-item-3 (claims t) (contents-at t) contents.Post contents-Inv-loop contents-μ-loop
 contents-enum-known-item-3 t c = search needs
@@ -128,8 +131,11 @@ contents-returns-4 t c = inside-close (c .before .before .before .before .loop .
 contents-enum-known-item-4 : (t : ℕ) → contents-lts.Need-enum-known-item-4 (claims t) (contents-at t) contents.Post contents-Inv-loop contents-μ-loop
 contents-enum-known-item-4 t c = search needs
 
+contents-stopped-requires-3 : (t : ℕ) → contents-lts.Need-stopped-requires-3 (claims t) (contents-at t) contents.Post contents-Inv-loop contents-μ-loop
+contents-stopped-requires-3 t c κs = search needs
+
 contents-returns-5 : (t : ℕ) → contents-lts.Need-returns-5 (claims t) (contents-at t) contents.Post contents-Inv-loop contents-μ-loop
-contents-returns-5 t c = inside-stop (c .before .before .before .before .loop .inv .1) (part-is _ _ _ (sym (c .before .before .before .item-at .ensures) ∙ ap partOf (c .before .item4 .given .1)))
+contents-returns-5 t c = stops-with _ _ _ _ _ _ (c .stopped3 .ensures) (inside-stop (c .before .before .before .before .before .loop .inv .1) (part-is _ _ _ (sym (c .before .before .before .before .item-at .ensures) ∙ ap partOf (c .before .before .item4 .given .1))))
 
 pub +contents-spec : {M : Type 1} → statement M
 +contents-spec = close μ-contents λ t. contents-lts.spec (claims t)
@@ -139,6 +145,7 @@ pub +contents-spec : {M : Type 1} → statement M
     contents-μ-loop
     (contents-properties-at-requires t)
     (contents-number-requires t)
+    (contents-stopped-requires t)
     (contents-returns t)
     (contents-loop-holds t)
     (contents-item-at-requires t)
@@ -146,7 +153,7 @@ pub +contents-spec : {M : Type 1} → statement M
     (contents-loop-less t)
     (contents-loop-again t)
     (contents-enum-known-item-2 t)
-    (contents-too-deep-requires t)
+    (contents-stopped-requires-2 t)
     (contents-returns-2 t)
     (contents-noted-requires t)
     (contents-sub-contents t)
@@ -159,4 +166,5 @@ pub +contents-spec : {M : Type 1} → statement M
     (contents-enum-known-item-3 t)
     (contents-returns-4 t)
     (contents-enum-known-item-4 t)
+    (contents-stopped-requires-3 t)
     (contents-returns-5 t)
