@@ -7,3 +7,5 @@ pub mod StateLaws
 pub mod LineLaws
 pub mod Longest
 pub mod Answers
+pub mod TotalSize
+pub mod Example

@@ -90,7 +90,7 @@ module _ (tree : List ℕ) (refused : readRecord tree .number ≡ 0 → ⊥) whe
 
 -- the lines of an accepted tree
 module _ {tree : List ℕ} {r : Record} (read : IsRead tree r) where
-  record-lines : listing tree ≡ recordLines (nameOf tree) r
+  pub record-lines : listing tree ≡ recordLines (nameOf tree) r
   unfolding listing
   record-lines = rw (read .accepted, listing) (ap (recordLines (nameOf tree)) (read .same))
 

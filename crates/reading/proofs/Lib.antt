@@ -18,3 +18,4 @@ pub mod Formed
 pub mod Example
 pub mod OrderLaws
 pub mod WalkedLaws
+pub mod TotalSize

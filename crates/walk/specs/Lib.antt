@@ -5,3 +5,4 @@ pub mod Parts
 pub mod Final
 pub mod Grammar
 pub mod Faults
+pub mod TotalSize
