@@ -45,7 +45,7 @@ module _ (v : List ℕ) (at : ℕ) where
       let n : ℕ = countAt v at in
       let l = length-each n (pageAt v at) in
       let pages = each-in-row (PageWithin (baseAt v at)) n (pageAt v at) (w .pages) in
-      let p = pages-pass n 0 (λ k m h. let g = pages k (omega arith) in (g .low, g .notBelow)) in
+      let p = pages-pass n 0 (λ k m h. let g = pages k (omega arith) in (omega arith, omega arith)) in
       let exponents : Passes (exponentChecks v at n) = (omega (arith, tests), p) in
       (omega (arith, tests), (omega (arith, tests), (omega (arith, tests), (omega (arith, tests), (omega (arith, tests), exponents)))))
 
@@ -58,11 +58,12 @@ module _ (v : List ℕ) (at : ℕ) where
       let some = ltb→lt 0 n (p .1 .1 .0) in
       let few = leb→le n mostPages (p .1 .1 .1 .0) in
       let r = leb→le (nextAt v at) (length v) (p .1 .1 .1 .1 .0) in
-      let q = p .1 .1 .1 .1 .1 in (
+      let q = p .1 .1 .1 .1 .1 in
+      let base = leb→le (baseAt v at) largestExponent (q .0) in (
         ltb→lt i mostDescriptors (p .0),
         r,
         record {
-          low = leb→le (baseAt v at) largestExponent (q .0);
+          low = omega arith;
           encoding = is-cell v bytes (at + 4) (omega arith);
           some = omega arith;
           few = omega arith;
@@ -70,6 +71,6 @@ module _ (v : List ℕ) (at : ℕ) where
               each-row (PageWithin (baseAt v at)) n (pageAt v at)
               (λ k m.
               (let g = passes-pages n 0 (q .1) k (omega arith) (omega arith) in
-              record { low = g .0; notBelow = g .1; encoding = is-cell v bytes (at + 16 + 8 * k) (omega arith) }));
+              record { low = omega arith; notBelow = omega arith; encoding = is-cell v bytes (at + 16 + 8 * k) (omega arith) }));
         },
       )
