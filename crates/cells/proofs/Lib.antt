@@ -1,3 +1,6 @@
 pub mod Cells
 pub mod Buffer
 pub mod Rows
+pub mod Lists
+pub mod Standing
+pub mod Bytes

@@ -5,13 +5,21 @@ use Prim.Native.Nat.{ℕ, suc, zero, _+_, _-_, _<_, _≤_}
 use native.Mathlib.Omega.{arith}
 use native.Mathlib.Numerals.{add-one}
 use lib.ListN.{getD, length, set, take, replicate, length-append, length-replicate}
-use lib.Seq.{set-at, length-take-le, take-suc}
+use lib.Seq.{set-at, length-take-le, take-suc, take-length}
 use Rattle.cells.specs.Rows.{each, padded}
 
 module _ {A : Type 0} where
   pub length-each : (n : ℕ) (f : ℕ → A) → length (each n f) ≡ n
   length-each zero f = refl
   length-each (suc n) f = omega (arith, length-append (each n f) (f n ∷ []), length-each n f)
+
+  -- a row of a list's elements is the list
+  row-take : (d : A) (xs : List A) (f : ℕ → A) → ((i : ℕ) → i < length xs → f i ≡ getD xs i d) → (n : ℕ) → n ≤ length xs → each n f ≡ take n xs
+  row-take d xs f h zero l = refl
+  row-take d xs f h (suc n) l = rw (take-suc xs n d (omega arith), row-take d xs f h n (omega arith), h n (omega arith))
+
+  pub each-list : (d : A) (xs : List A) (f : ℕ → A) → ((i : ℕ) → i < length xs → f i ≡ getD xs i d) → each (length xs) f ≡ xs
+  each-list d xs f h = row-take d xs f h (length xs) (omega arith) ∙ take-length xs
 
   pub length-padded : (m : ℕ) (z : A) (xs : List A) → length xs ≤ m → length (padded m z xs) ≡ m
   length-padded m z xs h = omega (arith, length-append xs (replicate (m - length xs) z), length-replicate (m - length xs) z)

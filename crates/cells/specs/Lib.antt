@@ -1,3 +1,4 @@
 pub mod Cells
 pub mod Buffer
 pub mod Rows
+pub mod Bytes

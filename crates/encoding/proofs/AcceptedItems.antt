@@ -5,20 +5,21 @@ use mathlib.Core.List.{List, [], _∷_}
 use Prim.Native.Nat.{ℕ, _-_, _≤_}
 use native.Mathlib.Omega.{arith}
 use lib.ListN.{length, take, drop}
+use Rattle.cells.specs.Bytes.{IsByte, Each}
+use Rattle.cells.proofs.Lists.{each-first}
+use Rattle.cells.proofs.Standing.{stands-take, stands-bytes}
 use Rattle.header.specs.declared.Blocks.{Blocks}
 use Rattle.header.proofs.Accepted.{Lies}
 use Rattle.walk.specs.Walk.{beforeRoot, accepted, walk, nameIn, treeTokens}
-use Rattle.encoding.specs.Items.{Item, endItem, encode, wholeBlock, Each, Byte, InBytes}
+use Rattle.encoding.specs.Items.{Item, endItem, encode, wholeBlock, InBytes}
 use Rattle.encoding.specs.TreeItems.{StructureIs}
-use Rattle.encoding.proofs.Lists.{each-first}
-use Rattle.encoding.proofs.Standing.{stands-take}
-use Rattle.encoding.proofs.ByteRange.{of-bytes, stands-bytes}
+use Rattle.encoding.proofs.ByteRange.{of-bytes}
 use Rattle.encoding.proofs.ReadBack.{block-read}
 use Rattle.encoding.proofs.AcceptedTokens.{accepted-complete}
 use Rattle.encoding.proofs.Unique.{block-unique}
 use Rattle.encoding.proofs.Decoding.{decode}
 
-pub accepted-items : (tree : List ℕ) (b : Blocks) → Each Byte tree → Lies tree b
+pub accepted-items : (tree : List ℕ) (b : Blocks) → Each IsByte tree → Lies tree b
     → walk (b .end) beforeRoot (treeTokens tree b (b .start)) ≡ accepted
     → (items : List (Item ℕ)) × StructureIs tree b items
 accepted-items tree b bytes lies walked =

@@ -5,15 +5,16 @@ use Prim.Native.Nat.{ℕ, zero, suc, _+_, _-_, _%_, _<_, _≤_}
 use native.Mathlib.Omega.{arith}
 use lib.ListN.{length, length-append}
 use Rattle.cells.specs.Cells.{cellAt}
+use Rattle.cells.specs.Bytes.{IsByte, Each, Stands}
+use Rattle.cells.proofs.Lists.{each-append}
+use Rattle.cells.proofs.Standing.{stands-none, stands-joined}
 use Rattle.strings.specs.Strings.{Text, ended, unended, textAt}
 use Rattle.tokens.specs.Steps.{padded}
 use Rattle.tokens.specs.Tokens.{afterBegin, tokens}
 use Rattle.tokens.specs.declared.Step.{Step}
 use Rattle.tokens.proofs.TokenList.{Is, begins, ends, holds, skips, stops, cut, unknown, none, view, follow, tokens-step}
-use Rattle.encoding.specs.Items.{Item, nopItem, beginItem, endNodeItem, propertyItem, endItem, itemBytes, encode, wholeBlock, itemSize, Each, Byte, Writable, NotEnd, Stands}
+use Rattle.encoding.specs.Items.{Item, nopItem, beginItem, endNodeItem, propertyItem, endItem, itemBytes, encode, wholeBlock, itemSize, Writable, NotEnd}
 use Rattle.encoding.specs.StringsBlock.{nameOf, propertyNames, Ended, NameEnds}
-use Rattle.encoding.proofs.Lists.{each-append}
-use Rattle.encoding.proofs.Standing.{stands-none, stands-joined}
 use Rattle.encoding.proofs.Sizes.{size-multiple, size-low, length-item}
 use Rattle.encoding.proofs.AcceptedTokens.{Complete}
 use Rattle.encoding.proofs.ReadStands.{ItemAt, nop-at, end-node-at, end-at, begin-at, property-at}
@@ -57,7 +58,7 @@ module _ (s : List ℕ) (stop : ℕ) (names : ℕ → Text) (at : ℕ) where
         named = each-append (NameEnds names) (nameOf item) (propertyNames (d .items)) n (d .named);
       }
 
-module _ (s : List ℕ) (bytes : Each Byte s) (stop : ℕ) (fits : stop ≤ length s) (whole : stop % 4 ≡ 0) (names : ℕ → Text) where
+module _ (s : List ℕ) (bytes : Each IsByte s) (stop : ℕ) (fits : stop ≤ length s) (whole : stop % 4 ≡ 0) (names : ℕ → Text) where
   -- the item at a place, from the token there
   module _ (at : ℕ) (aligned : at % 4 ≡ 0)
       (rest : (next : ℕ) → at + 4 ≤ next → at + 4 ≤ stop → next % 4 ≡ 0 → Complete stop (tokens s stop names next) → Decoded s stop names next) where

@@ -5,14 +5,17 @@ use Prim.Native.Nat.{ℕ, _+_, _≤_}
 use native.Mathlib.Omega.{arith}
 use lib.ListN.{length}
 use Rattle.cells.specs.Cells.{cellAt}
+use Rattle.cells.specs.Bytes.{cellBytes, Each, Stands}
+use Rattle.cells.proofs.Standing.{stands-take, stands-first, stands-after}
+use Rattle.cells.proofs.Bytes.{length-cell, stands-cell}
 use Rattle.strings.specs.Strings.{Text, ended}
 use Rattle.tokens.specs.Steps.{padded}
 use Rattle.tokens.specs.Tokens.{beginNode, endNode, property, nop, end, tokens}
 use Rattle.tokens.proofs.Stepping.{step-begin, step-end-node, step-property, step-nop, step-end, property-whole}
 use Rattle.tokens.proofs.TokenList.{tokens-step}
-use Rattle.encoding.specs.Items.{Item, nopItem, beginItem, endNodeItem, propertyItem, endItem, cellBytes, itemBytes, itemSize, itemToken, Each, NotZero, Fills, Writable, NotEnd, Stands}
-use Rattle.encoding.proofs.Standing.{stands-take, stands-first, stands-after, length-cell, stands-cell, stands-text}
+use Rattle.encoding.specs.Items.{Item, nopItem, beginItem, endNodeItem, propertyItem, endItem, itemBytes, itemSize, itemToken, NotZero, Fills, Writable, NotEnd}
 use Rattle.encoding.proofs.Sizes.{padded-low}
+use Rattle.encoding.proofs.TextReading.{stands-text}
 
 module _ (s : List ℕ) (stop : ℕ) (names : ℕ → Text) (at : ℕ) where
   read-nop : Stands s at (cellBytes 4) → at + 4 ≤ stop → tokens s stop names at ≡ nop at ∷ tokens s stop names (at + 4)

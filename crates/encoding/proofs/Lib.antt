@@ -1,5 +1,4 @@
-pub mod Lists
-pub mod Standing
+pub mod TextReading
 pub mod Sizes
 pub mod ByteRange
 pub mod ItemReading

@@ -5,13 +5,15 @@ use mathlib.Core.List.{List, [], _∷_, _++_, append-assoc}
 use Prim.Native.Nat.{ℕ, _+_, _≤_}
 use native.Mathlib.Omega.{arith}
 use lib.ListN.{length, length-append}
+use Rattle.cells.specs.Bytes.{Each, Stands}
+use Rattle.cells.proofs.Standing.{stands-first, stands-after}
 use Rattle.strings.specs.Strings.{ended, sameBytes, textAt}
 use Rattle.strings.proofs.Strings.{same-true, same-refl, same-same}
 use Rattle.names.specs.Names.{either}
 use Rattle.tokens.specs.Steps.{pick}
-use Rattle.encoding.specs.Items.{Each, NotZero, Stands}
+use Rattle.encoding.specs.Items.{NotZero}
 use Rattle.encoding.specs.StringsBlock.{stringsBytes, listed, offsetIn, withName, withNames}
-use Rattle.encoding.proofs.Standing.{stands-first, stands-after, stands-text}
+use Rattle.encoding.proofs.TextReading.{stands-text}
 
 -- a name is one of these
 abbrev pub Listed : List (List ℕ) → List ℕ → Type 0

@@ -3,9 +3,10 @@ use mathlib.Core.Path.{_≡_, refl, ap}
 use mathlib.Core.List.{List, [], _∷_, _++_, map}
 use Prim.Native.Nat.{ℕ, _+_, _≤_}
 use native.Mathlib.Omega.{arith}
+use Rattle.cells.specs.Bytes.{Each}
 use Rattle.strings.specs.Strings.{Text, ended}
 use Rattle.tokens.specs.Tokens.{Token, beginNode, endNode, property, end}
-use Rattle.encoding.specs.Items.{Item, nopItem, beginItem, endNodeItem, propertyItem, endItem, wholeBlock, itemSize, itemsSize, itemToken, itemTokens, Each}
+use Rattle.encoding.specs.Items.{Item, nopItem, beginItem, endNodeItem, propertyItem, endItem, wholeBlock, itemSize, itemsSize, itemToken, itemTokens}
 use Rattle.encoding.specs.StringsBlock.{propertyNames, renamed}
 use Rattle.encoding.specs.Nops.{withoutNops, withoutNopTokens, withoutOffset}
 

@@ -4,10 +4,11 @@ use mathlib.Core.List.{List, [], _∷_, _++_}
 use Prim.Native.Nat.{ℕ, _+_, _≤_}
 use native.Mathlib.Omega.{arith}
 use lib.ListN.{length, length-append}
+use Rattle.cells.specs.Bytes.{Each, Stands}
+use Rattle.cells.proofs.Standing.{stands-first, stands-next, stands-after}
 use Rattle.strings.specs.Strings.{Text}
 use Rattle.tokens.specs.Tokens.{Token, end, tokens}
-use Rattle.encoding.specs.Items.{Item, endItem, itemBytes, encode, wholeBlock, itemSize, itemToken, itemTokens, Each, Writable, NotEnd, Stands}
-use Rattle.encoding.proofs.Standing.{stands-first, stands-next, stands-after}
+use Rattle.encoding.specs.Items.{Item, endItem, itemBytes, encode, wholeBlock, itemSize, itemToken, itemTokens, Writable, NotEnd}
 use Rattle.encoding.proofs.Sizes.{length-item, length-encode, encode-append, tokens-append}
 use Rattle.encoding.proofs.ItemReading.{item-read, end-read}
 

@@ -1,19 +1,20 @@
--- What is read at a place stands there: the string, the cell, and the item of each kind of token. Assumes nothing.
+-- What is read at a place stands there: the string, and the item of each kind of token. Assumes nothing.
 use mathlib.Core.Path.{_≡_, refl, sym, ap, subst, _∙_}
 use mathlib.Core.Bool.{Bool, true, false}
 use mathlib.Core.List.{List, [], _∷_, _++_, append-assoc}
-use Prim.Native.Nat.{ℕ, suc, _+_, _-_, _/_, _%_, _<_, _≤_}
+use Prim.Native.Nat.{ℕ, _+_, _-_, _%_, _<_, _≤_}
 use native.Mathlib.Omega.{arith}
 use borrow.Author.Tests.{eqb-true, eqb-false}
 use lib.Dec.{eqb}
-use lib.ListN.{length, take, drop, getD, length-append, length-take, length-drop}
-use lib.Seq.{drop-cons, take-take, length-take-le}
+use lib.ListN.{length, take, drop, length-append, length-take, length-drop}
+use lib.Seq.{take-take, length-take-le}
 use Rattle.cells.specs.Cells.{cellAt}
+use Rattle.cells.specs.Bytes.{IsByte, cellBytes, Each, Stands}
+use Rattle.cells.proofs.Standing.{stands-taken, stands-joined}
+use Rattle.cells.proofs.Bytes.{length-cell, cell-stands}
 use Rattle.strings.specs.Strings.{Text, ended, unended, onto, textOf, textAt}
 use Rattle.tokens.specs.Steps.{padded}
-use Rattle.encoding.specs.Items.{Item, nopItem, beginItem, endNodeItem, propertyItem, endItem, cellBytes, itemBytes, itemSize, Each, Byte, NotZero, Writable, Stands}
-use Rattle.encoding.proofs.Lists.{each-get}
-use Rattle.encoding.proofs.Standing.{stands-taken, stands-joined, length-cell}
+use Rattle.encoding.specs.Items.{Item, nopItem, beginItem, endNodeItem, propertyItem, endItem, itemBytes, itemSize, NotZero, Writable}
 use Rattle.encoding.proofs.Sizes.{padded-low, padded-fits}
 
 -- what a run of bytes begins with
@@ -41,40 +42,13 @@ text-stands s from stop name e =
     let k : length (name ++ 0 ∷ []) ≤ stop - from = omega (arith, length-append name (0 ∷ []), length-take (stop - from) (drop from s)) in
     (h .0, sym (take-take (length (name ++ 0 ∷ [])) (stop - from) (drop from s) k) ∙ h .1, omega (arith, length-take (stop - from) (drop from s)))
 
-module _ (s : List ℕ) (bytes : Each Byte s) where
-  -- a cell that is read stands there
-  pub cell-stands : (at n : ℕ) → at + 4 ≤ length s → cellAt s at ≡ n → Stands s at (cellBytes n)
-  unfolding cellBytes cellAt Stands
-  cell-stands at n h e =
-      let b0 = each-get Byte 0 s bytes at (omega arith) in
-      let b1 = each-get Byte 0 s bytes (at + 1) (omega arith) in
-      let b2 = each-get Byte 0 s bytes (at + 2) (omega arith) in
-      let b3 = each-get Byte 0 s bytes (at + 3) (omega arith) in
-      let k0 : n / 16777216 ≡ getD s at 0 = omega arith in
-      let k1 : n / 65536 % 256 ≡ getD s (at + 1) 0 = omega arith in
-      let k2 : n / 256 % 256 ≡ getD s (at + 2) 0 = omega arith in
-      let k3 : n % 256 ≡ getD s (at + 3) 0 = omega arith in
-      rw (
-        next at (at + 1) (omega arith) (omega arith),
-        next (at + 1) (at + 2) (omega arith) (omega arith),
-        next (at + 2) (at + 3) (omega arith) (omega arith),
-        next (at + 3) (at + 4) (omega arith) (omega arith),
-        k0,
-        k1,
-        k2,
-        k3,
-      )
-    where
-      next : (i j : ℕ) → suc i ≡ j → i < length s → drop i s ≡ getD s i 0 ∷ drop j s
-      next i j e h = rw (← e) (drop-cons s i 0 h)
-
 -- a writable item stands at a place, within a block that ends at `stop`
 pub record ItemAt (s : List ℕ) (stop at : ℕ) (item : Item ℕ) : Type 0 where
   pub stands : Stands s at (itemBytes item)
   pub writable : Writable item
   pub within : at + itemSize item ≤ stop
 
-module _ (s : List ℕ) (bytes : Each Byte s) (stop at : ℕ) (fits : stop ≤ length s) where
+module _ (s : List ℕ) (bytes : Each IsByte s) (stop at : ℕ) (fits : stop ≤ length s) where
   pub nop-at : at + 4 ≤ stop → cellAt s at ≡ 4 → ItemAt s stop at nopItem
   unfolding itemBytes itemSize
   nop-at r e = record { stands = cell-stands s bytes at 4 (omega arith) e; writable = tt; within = r }

@@ -3,14 +3,15 @@ use mathlib.Core.Path.{_≡_, sym, ap, _∙_}
 use mathlib.Core.List.{List, [], map}
 use Prim.Native.Nat.{ℕ, _+_, _≤_}
 use lib.ListN.{length}
+use Rattle.cells.specs.Bytes.{Each, Stands}
+use Rattle.cells.proofs.Lists.{each-implies}
 use Rattle.strings.specs.Strings.{ended}
 use Rattle.header.specs.declared.Blocks.{Blocks}
 use Rattle.properties.specs.Properties.{nameAt}
 use Rattle.walk.specs.Walk.{nameIn, treeTokens}
-use Rattle.encoding.specs.Items.{Item, wholeBlock, itemTokens, Each, NotZero, Writable, NotEnd, Stands}
+use Rattle.encoding.specs.Items.{Item, wholeBlock, itemTokens, NotZero, Writable, NotEnd}
 use Rattle.encoding.specs.StringsBlock.{stringsBytes, offsetIn, propertyNames, stringsOf, renamed}
 use Rattle.encoding.specs.TreeItems.{TreeHolds}
-use Rattle.encoding.proofs.Lists.{each-implies}
 use Rattle.encoding.proofs.ReadBack.{block-read}
 use Rattle.encoding.proofs.NameOffsets.{Listed, names-listed, each-names, name-read}
 use Rattle.encoding.proofs.Renaming.{names-whole, writable-renamed, not-end-renamed, whole-renamed, ReadAs, tokens-renamed}

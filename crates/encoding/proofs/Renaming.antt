@@ -3,11 +3,12 @@
 use mathlib.Core.Path.{_≡_, refl, sym, ap, ap₂}
 use mathlib.Core.List.{List, [], _∷_, _++_, append-assoc, map}
 use Prim.Native.Nat.{ℕ, _+_}
+use Rattle.cells.specs.Bytes.{Each}
+use Rattle.cells.proofs.Lists.{each-map, each-first, each-next}
 use Rattle.strings.specs.Strings.{Text}
 use Rattle.tokens.specs.Tokens.{Token, property}
-use Rattle.encoding.specs.Items.{Item, nopItem, beginItem, endNodeItem, propertyItem, endItem, wholeBlock, itemSize, itemsSize, itemToken, itemTokens, Each, Writable, NotEnd}
+use Rattle.encoding.specs.Items.{Item, nopItem, beginItem, endNodeItem, propertyItem, endItem, wholeBlock, itemSize, itemsSize, itemToken, itemTokens, Writable, NotEnd}
 use Rattle.encoding.specs.StringsBlock.{withNames, nameOf, propertyNames, stringsOf, renamed}
-use Rattle.encoding.proofs.Lists.{each-map, each-first, each-next}
 
 -- the names of items, one after the other
 module _ {N : Type 0} where

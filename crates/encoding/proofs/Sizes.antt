@@ -4,11 +4,12 @@ use mathlib.Core.List.{List, [], _∷_, _++_, append-assoc}
 use Prim.Native.Nat.{ℕ, _+_, _-_, _%_, _≤_}
 use native.Mathlib.Omega.{arith}
 use lib.ListN.{length, length-append, length-replicate}
+use Rattle.cells.specs.Bytes.{Each}
+use Rattle.cells.proofs.Bytes.{length-cell}
 use Rattle.strings.specs.Strings.{Text}
 use Rattle.tokens.specs.Steps.{padded}
 use Rattle.tokens.specs.Tokens.{Token}
-use Rattle.encoding.specs.Items.{Item, nopItem, beginItem, endNodeItem, propertyItem, endItem, itemBytes, encode, itemSize, itemsSize, itemToken, itemTokens, Each, Fills, zeroPadding, Writable}
-use Rattle.encoding.proofs.Standing.{length-cell}
+use Rattle.encoding.specs.Items.{Item, nopItem, beginItem, endNodeItem, propertyItem, endItem, itemBytes, encode, itemSize, itemsSize, itemToken, itemTokens, Fills, zeroPadding, Writable}
 
 -- padded lengths
 pub padded-low : (n : ℕ) → n ≤ padded n

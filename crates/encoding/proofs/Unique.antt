@@ -7,13 +7,14 @@ use lib.Dec.{eqb}
 use lib.ListN.{length, take, drop, length-append}
 use lib.Seq.{take-at, take-append-seam, drop-append-seam}
 use Rattle.cells.specs.Cells.{cellAt}
+use Rattle.cells.specs.Bytes.{cellBytes, Each}
+use Rattle.cells.proofs.Lists.{each-append}
 use Rattle.strings.specs.Strings.{ended, textOf}
 use Rattle.tokens.specs.Steps.{pick, padded}
-use Rattle.encoding.specs.Items.{Item, nopItem, beginItem, endNodeItem, propertyItem, endItem, cellBytes, itemBytes, encode, wholeBlock, Each, Writable}
+use Rattle.encoding.specs.Items.{Item, nopItem, beginItem, endNodeItem, propertyItem, endItem, itemBytes, encode, wholeBlock, Writable}
 use Rattle.encoding.specs.StringsBlock.{characters}
-use Rattle.encoding.proofs.Lists.{each-append}
-use Rattle.encoding.proofs.Standing.{text-first}
 use Rattle.encoding.proofs.Sizes.{size-low, length-item}
+use Rattle.encoding.proofs.TextReading.{text-first}
 
 -- the item that bytes begin with, from its first cell
 abbrev beginIn : List ℕ → Item ℕ

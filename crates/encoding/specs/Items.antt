@@ -1,8 +1,9 @@
 -- What a structure block is written from: its items, their bytes, and the tokens that they are read as (document 01, "The walk").
-use Prim.Native.Nat.{ℕ, _+_, _-_, _/_, _%_, _^_, _<_}
+use Prim.Native.Nat.{ℕ, _+_, _-_}
 use mathlib.Core.Path.{_≡_}
 use mathlib.Core.List.{List, [], _∷_, _++_}
-use lib.ListN.{length, take, drop, replicate}
+use lib.ListN.{length, replicate}
+use Rattle.cells.specs.Bytes.{IsByte, IsCell, cellBytes, Each}
 use Rattle.strings.specs.Strings.{Text, ended}
 use Rattle.tokens.specs.Steps.{padded}
 use Rattle.tokens.specs.Tokens.{Token, beginNode, endNode, property, nop, end}
@@ -15,10 +16,6 @@ pub data Item (N : Type 0) : Type 0 where
   endNodeItem : Item N
   propertyItem : (name : N) (value padding : List ℕ) → Item N
   endItem : Item N
-
--- the four bytes of a number below 2 ^ 32: "All cells are big-endian"
-unfoldable pub cellBytes : ℕ → List ℕ
-cellBytes n = n / 2 ^ 24 ∷ n / 2 ^ 16 % 256 ∷ n / 2 ^ 8 % 256 ∷ n % 256 ∷ []
 
 -- the bytes of an item: "1 begin node, 2 end node, 3 property, 4 NOP (skipped), 9 end"
 unfoldable pub itemBytes : Item ℕ → List ℕ
@@ -64,19 +61,6 @@ module _ {N : Type 0} where
   itemTokens names at [] = []
   itemTokens names at (item ∷ items) = itemToken names at item ∷ itemTokens names (at + itemSize item) items
 
--- something holds of each element of a list
-abbrev pub Each : {A : Type 0} → (A → Type 0) → List A → Type 0
-Each P [] = Unit {0}
-Each P (x ∷ xs) = P x × Each P xs
-
--- a number that a byte can be
-abbrev pub Byte : ℕ → Type 0
-Byte b = b < 256
-
--- a number that a cell can be
-abbrev pub Cell : ℕ → Type 0
-Cell n = n < 2 ^ 32
-
 -- a byte that does not end a name
 abbrev pub NotZero : ℕ → Type 0
 NotZero b = b ≡ 0 → ⊥
@@ -109,11 +93,7 @@ module _ {N : Type 0} where
 -- an item that bytes can hold: its name, value and padding are bytes, and the value's length and the name's offset fit a cell
 abbrev pub InBytes : Item ℕ → Type 0
 InBytes nopItem = Unit {0}
-InBytes (beginItem name padding) = Each Byte name × Each Byte padding
+InBytes (beginItem name padding) = Each IsByte name × Each IsByte padding
 InBytes endNodeItem = Unit {0}
-InBytes (propertyItem offset value padding) = Cell (length value) × Cell offset × Each Byte value × Each Byte padding
+InBytes (propertyItem offset value padding) = IsCell (length value) × IsCell offset × Each IsByte value × Each IsByte padding
 InBytes endItem = Unit {0}
-
--- bytes stand at a place of s
-unfoldable pub Stands : List ℕ → ℕ → List ℕ → Type 0
-Stands s at bytes = take (length bytes) (drop at s) ≡ bytes

@@ -3,9 +3,10 @@ use Prim.Native.Nat.{ℕ, _+_, _-_, _≤_}
 use mathlib.Core.Path.{_≡_}
 use mathlib.Core.List.{List}
 use lib.ListN.{length, take, drop}
+use Rattle.cells.specs.Bytes.{Each, Stands}
 use Rattle.header.specs.declared.Blocks.{Blocks}
 use Rattle.walk.specs.Walk.{nameIn, treeTokens}
-use Rattle.encoding.specs.Items.{Item, encode, wholeBlock, itemTokens, Each, Writable, NotEnd, InBytes, Stands}
+use Rattle.encoding.specs.Items.{Item, encode, wholeBlock, itemTokens, Writable, NotEnd, InBytes}
 use Rattle.encoding.specs.StringsBlock.{stringsBytes, propertyNames, stringsOf, withOffsets, NameEnds}
 
 -- a tree is written from items: their bytes begin the structure block, and their strings the strings block

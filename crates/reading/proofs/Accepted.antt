@@ -6,7 +6,7 @@ use Prim.Native.Nat.{ℕ}
 use native.Mathlib.Omega.{arith}
 use lib.Dec.{T, leb, leb→le}
 use lib.ListN.{length}
-use Rattle.refusal.proofs.Checks.{Passes}
+use Rattle.refusal.proofs.Checks.{Passes, passes-both}
 use Rattle.header.specs.Header.{blocksOf}
 use Rattle.names.specs.Names.{sameText, either}
 use Rattle.record.specs.Record.{mostFeatures, mostDependencies, highestHfscrBit, highestFscrBit, highestHwcapBit}
@@ -17,7 +17,7 @@ use Rattle.reading.specs.Features.{inOrder, some, nameChecks, featureChe
 use Rattle.reading.specs.Dependencies.{carrierChecks}
 use Rattle.reading.specs.Reading.{containersOf, containerChecks, containerProperties, countChecks, readChecks}
 use Rattle.reading.specs.Accepted.{checksOf, dependenciesOf, BitForm, FeatureForm, ContainerForm, Accepted}
-use Rattle.reading.proofs.Passed.{holds-true, holds-false, passes-both, passes-order, passes-cell, passes-carriers}
+use Rattle.reading.proofs.Passed.{holds-true, holds-false, passes-order, passes-cell, passes-carriers}
 
 given-where : (required given : Bool) → T (either (not required) given) → required ≡ true → given ≡ true
 given-where true given h e = holds-true given h

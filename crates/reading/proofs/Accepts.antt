@@ -9,7 +9,7 @@ use lib.Dec.{T, le→leb}
 use lib.ListN.{length, getD}
 use Rattle.refusal.specs.Refusal.{Fault, Placed, placed, refuseAt}
 use Rattle.refusal.specs.Checks.{Check}
-use Rattle.refusal.proofs.Checks.{Passes, passes}
+use Rattle.refusal.proofs.Checks.{Passes, passes, passes-join}
 use Rattle.header.specs.Header.{blocksOf}
 use Rattle.names.specs.Names.{either}
 use Rattle.record.specs.declared.Record.{Record}
@@ -31,10 +31,6 @@ true-holds h = subst T (sym h) tt
 
 false-holds : {b : Bool} → b ≡ false → T (not b)
 false-holds h = subst (λ (x : Bool). T (not x)) (sym h) tt
-
-passes-join : (cs ds : List (Check Fault)) → Passes cs → Passes ds → Passes (cs ++ ds)
-passes-join [] ds h k = k
-passes-join (c ∷ cs) ds h k = (h .0, passes-join cs ds (h .1) k)
 
 -- the checks of nodes in order hold where those of each of them do
 module _ (checks : List Node → Node → List (Check Fault)) where

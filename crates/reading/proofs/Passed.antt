@@ -1,4 +1,4 @@
--- Checks that all hold: those of a part, of a node among nodes in order, and of a dependency. Assumes nothing.
+-- Checks that all hold: those of a node among nodes in order, and of a dependency. Assumes nothing.
 use mathlib.Core.Path.{_≡_, refl, sym, subst}
 use mathlib.Core.Bool.{Bool, true, false, not}
 use mathlib.Core.List.{List, [], _∷_, _++_, append-nil, append-assoc}
@@ -8,7 +8,7 @@ use lib.Dec.{T}
 use lib.ListN.{length, getD}
 use Rattle.refusal.specs.Refusal.{Fault}
 use Rattle.refusal.specs.Checks.{Check}
-use Rattle.refusal.proofs.Checks.{Passes}
+use Rattle.refusal.proofs.Checks.{Passes, passes-both}
 use Rattle.nodes.specs.Nodes.{Node}
 use Rattle.reading.specs.Features.{inOrder}
 use Rattle.reading.specs.Dependencies.{isSomewhere, carrier, cellChecks, carrierChecks}
@@ -21,10 +21,6 @@ holds-true false h = absurd h
 pub holds-false : (b : Bool) → T (not b) → b ≡ false
 holds-false true h = absurd h
 holds-false false h = refl
-
-pub passes-both : (cs ds : List (Check Fault)) → Passes (cs ++ ds) → Passes cs × Passes ds
-passes-both [] ds h = (tt, h)
-passes-both (c ∷ cs) ds h = let r = passes-both cs ds (h .1) in ((h .0, r .0), r .1)
 
 -- the checks of one node, by the nodes before it
 module _ (checks : List Node → Node → List (Check Fault)) where

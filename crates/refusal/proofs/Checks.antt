@@ -28,6 +28,16 @@ Holds zero cs = Unit
 Holds (suc k) [] = Unit
 Holds (suc k) (c ∷ cs) = T (c .holds) × Holds k cs
 
+module _ {F : Type 0} where
+  -- those of two lists hold where those of each hold
+  pub passes-join : (cs ds : List (Check F)) → Passes cs → Passes ds → Passes (cs ++ ds)
+  passes-join [] ds h k = k
+  passes-join (c ∷ cs) ds h k = (h .0, passes-join cs ds (h .1) k)
+
+  pub passes-both : (cs ds : List (Check F)) → Passes (cs ++ ds) → Passes cs × Passes ds
+  passes-both [] ds h = (tt, h)
+  passes-both (c ∷ cs) ds h = let r = passes-both cs ds (h .1) in ((h .0, r .0), r .1)
+
 abbrev pub faultAt : {F : Type 0} → F → ℕ → List (Check F) → F
 faultAt d k [] = d
 faultAt d zero (c ∷ cs) = c .fault

@@ -134,7 +134,7 @@ unfolding pageChecks
 numbered-pages zero v at j = tt
 numbered-pages (suc n) v at j = (omega arith, (omega arith, numbered-pages n v at (suc j)))
 
-numbered-descriptor : (v : List ℕ) (i at : ℕ) → Numbered (descriptorChecks v i at)
+pub numbered-descriptor : (v : List ℕ) (i at : ℕ) → Numbered (descriptorChecks v i at)
 unfolding descriptorChecks exponentChecks
 numbered-descriptor v i at =
     (omega arith, (omega arith, (omega arith, (omega arith, (omega arith, (omega arith, numbered-pages (countAt v at) v at 0))))))
@@ -160,6 +160,16 @@ not-refused v i at e =
 pub read-count : (v : List ℕ) (at : ℕ) {d : Descriptor} → d ≡ descriptorAt v at → d .count ≡ countAt v at
 unfolding descriptorAt
 read-count v at e = ap (λ (x : Descriptor). x .count) e
+
+-- the checks from a place on: there is a descriptor, or the value ends
+module _ (v : List ℕ) (most i at : ℕ) where
+  pub checks-more : at < length v → checksFrom (suc most) v i at ≡ descriptorChecks v i at ++ checksFrom most v (suc i) (nextAt v at)
+  unfolding checksFrom
+  checks-more h = rw (lt-ltb at (length v) h, checksFrom)
+
+  pub checks-none : length v ≤ at → checksFrom (suc most) v i at ≡ []
+  unfolding checksFrom
+  checks-none h = rw (le-ltb at (length v) h, checksFrom)
 
 -- what the descriptors from index i on decide, where `read` are those before it
 abbrev pub outcomeFrom : List ℕ → List Descriptor → ℕ → ℕ → Outcome SegmentTable
@@ -205,8 +215,7 @@ module _ {v : List ℕ} {table : SegmentTable} {at i : ℕ} (g : DescriptorsRead
   module _ (h : at < length v) where
     first-checks : checksFrom (suc mostDescriptors - i) v i at
         ≡ descriptorChecks v i at ++ checksFrom (suc mostDescriptors - (i + 1)) v (i + 1) (nextAt v at)
-    unfolding checksFrom
-    first-checks = rw (one-less, lt-ltb at (length v) h, checksFrom, add-one i)
+    first-checks = rw (one-less, add-one i) (checks-more v (suc mostDescriptors - suc i) i at h)
 
     first-descriptor : descriptorsFrom (suc mostDescriptors - i) v at
         ≡ descriptorAt v at ∷ descriptorsFrom (suc mostDescriptors - (i + 1)) v (nextAt v at)

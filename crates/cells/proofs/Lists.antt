@@ -1,9 +1,12 @@
 -- Laws of what holds of each element of a list. Assumes nothing.
+use mathlib.Core.Path.{_≡_, subst}
 use mathlib.Core.List.{List, [], _∷_, _++_, map}
 use Prim.Native.Nat.{ℕ, zero, suc, _<_}
 use native.Mathlib.Omega.{arith}
+use native.Mathlib.Decide.{decLt}
 use lib.ListN.{length, take, drop, getD}
-use Rattle.encoding.specs.Items.{Each}
+use Rattle.cells.specs.Bytes.{Each}
+use Rattle.cells.specs.Rows.{each}
 
 module _ {A : Type 0} (P : A → Type 0) where
   pub each-append : (xs ys : List A) → Each P xs → Each P ys → Each P (xs ++ ys)
@@ -37,6 +40,19 @@ module _ {A : Type 0} (P : A → Type 0) where
   each-get d [] h i k = absurd (omega arith)
   each-get d (x ∷ xs) h zero k = h .0
   each-get d (x ∷ xs) h (suc i) k = each-get d xs (h .1) i (omega arith)
+
+  -- a row
+  pub each-row : (n : ℕ) (f : ℕ → A) → ((i : ℕ) → i < n → P (f i)) → Each P (each n f)
+  each-row zero f h = tt
+  each-row (suc n) f h = each-append (each n f) (f n ∷ []) (each-row n f (λ i k. h i (omega arith))) (h n (omega arith), tt)
+
+  pub each-in-row : (n : ℕ) (f : ℕ → A) → Each P (each n f) → (i : ℕ) → i < n → P (f i)
+  each-in-row zero f h i k = absurd (omega arith)
+  each-in-row (suc n) f h i k = go (decLt i n) (each-in-row n f (each-first (each n f) (f n ∷ []) h) i)
+    where
+      go : Dec (i < n) → (i < n → P (f i)) → P (f i)
+      go (yes l) r = r l
+      go (no l) r = let e : n ≡ i = omega arith in subst (λ (j : ℕ). P (f j)) e (each-next (each n f) (f n ∷ []) h .0)
 
 pub each-implies : {A : Type 0} (P Q : A → Type 0) → ((x : A) → P x → Q x) → (xs : List A) → Each P xs → Each Q xs
 each-implies P Q f [] h = tt

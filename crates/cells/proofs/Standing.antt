@@ -1,15 +1,13 @@
--- Laws of bytes that stand at a place: their parts, and the cell and the string that are read there. Assumes nothing.
+-- Laws of bytes that stand at a place: their parts, and bytes that are written there. Assumes nothing.
 use mathlib.Core.Path.{_≡_, refl, sym, ap, subst, _∙_}
-use mathlib.Core.List.{List, [], _∷_, _++_, append-assoc}
-use Prim.Native.Nat.{ℕ, _+_, _-_, _/_, _%_, _<_, _≤_}
+use mathlib.Core.List.{List, [], _++_}
+use Prim.Native.Nat.{ℕ, _+_, _<_, _≤_}
 use native.Mathlib.Omega.{arith}
-use borrow.Author.Tests.{ne-eqb}
 use lib.ListN.{length, take, drop, getD, length-append, length-take, length-drop}
 use lib.Seq.{take-add, take-take, take-append-seam, drop-append-seam, drop-drop, getD-take, getD-drop, length-take-le}
 use Rattle.cells.specs.Buffer.{written}
-use Rattle.cells.specs.Cells.{cellAt}
-use Rattle.strings.specs.Strings.{ended, textOf, textAt}
-use Rattle.encoding.specs.Items.{cellBytes, Each, NotZero, Stands}
+use Rattle.cells.specs.Bytes.{IsByte, Each, Stands}
+use Rattle.cells.proofs.Lists.{each-take, each-drop}
 
 module _ (s : List ℕ) (at : ℕ) where
   pub stands-none : Stands s at []
@@ -75,32 +73,7 @@ stands-written old at new h =
     subst (λ (p : ℕ). Stands (take at old ++ (new ++ drop (at + length new) old)) p new) (length-take-le at old h)
     (stands-between (take at old) new (drop (at + length new) old))
 
--- cells
-pub length-cell : (n : ℕ) → length (cellBytes n) ≡ 4
-unfolding cellBytes
-length-cell n = refl
-
-pub stands-cell : (s : List ℕ) (at n : ℕ) → Stands s at (cellBytes n) → cellAt s at ≡ n
-unfolding cellBytes cellAt
-stands-cell s at n w =
-    let z : at + 0 ≡ at = omega arith in
-    let b0 : getD s at 0 ≡ n / 16777216 = rw z at (stands-at s at (cellBytes n) w 0 (omega arith)) in
-    let b1 : getD s (at + 1) 0 ≡ n / 65536 % 256 = stands-at s at (cellBytes n) w 1 (omega arith) in
-    let b2 : getD s (at + 2) 0 ≡ n / 256 % 256 = stands-at s at (cellBytes n) w 2 (omega arith) in
-    let b3 : getD s (at + 3) 0 ≡ n % 256 = stands-at s at (cellBytes n) w 3 (omega arith) in
-    omega arith
-
--- strings
-pub text-first : (name rest : List ℕ) → Each NotZero name → textOf (name ++ 0 ∷ rest) ≡ ended name
-unfolding textOf
-text-first [] rest h = refl
-text-first (b ∷ name) rest h = rw (ne-eqb b 0 (h .0), textOf, text-first name rest (h .1))
-
-pub stands-text : (s : List ℕ) (from stop : ℕ) (name : List ℕ) → Each NotZero name → Stands s from (name ++ 0 ∷ []) → from + length name < stop → textAt s from stop ≡ ended name
-unfolding Stands textAt
-stands-text s from stop name h w r =
-    let l : List ℕ = drop from s in
-    let n : ℕ = length (name ++ 0 ∷ []) in
-    let e : stop - from ≡ n + (stop - from - n) = omega (arith, length-append name (0 ∷ [])) in
-    rw (e, take-add n (stop - from - n) l, w, append-assoc name (0 ∷ []))
-    (text-first name (take (stop - from - n) (drop n l)) h)
+-- bytes that stand among bytes
+pub stands-bytes : (s : List ℕ) (at : ℕ) (a : List ℕ) → Stands s at a → Each IsByte s → Each IsByte a
+unfolding Stands
+stands-bytes s at a w h = subst (Each IsByte) w (each-take IsByte (length a) (drop at s) (each-drop IsByte at s h))
