@@ -1,13 +1,13 @@
 -- "Mask bits at or above the count are ignored in the first two", and "`isa` filters nothing here": no answer tells. Assumes nothing.
 use Prim.Native.Nat.{ℕ}
 use mathlib.Core.Path.{_≡_, refl, sym, ap, _∙_}
-use mathlib.Core.Bool.{Bool, true, false, not}
-use mathlib.Core.List.{List, [], _∷_, _++_}
-use borrow.Author.Tests.{ltb-true, not-true}
-use lib.Dec.{leb, ltb}
+use mathlib.Core.Bool.{true}
+use mathlib.Core.List.{List, [], _++_}
+use lib.Dec.{leb}
 use lib.ListN.{length, replicate}
 use Rattle.refusal.specs.Refusal.{answer, refuse}
-use Rattle.refusal.specs.Checks.{Check, check, firstFault}
+use Rattle.refusal.specs.Checks.{Check, firstFault}
+use Rattle.refusal.proofs.Checks.{check-same}
 use Rattle.cells.specs.Buffer.{written}
 use Rattle.positions.specs.Sets.{setWords, room, has, collect, setOf, noMembers}
 use Rattle.record.specs.declared.Record.{Record}
@@ -20,7 +20,8 @@ use Rattle.tables.specs.Tables.{inRow, tableWords}
 use Rattle.closure.specs.Reach.{enabledByReach}
 use Rattle.enabled.specs.Answers.{membersOf, nobody, enabledSet, enable}
 use Rattle.reach.specs.Answers.{reachOf, enabledByTable, enableByTable}
-use Rattle.chain.specs.Chain.{isEnabled, chainIn, chainChecks, chain, afterChain}
+use Rattle.chain.specs.Chain.{isEnabled, chainIn, positionChecks, chainChecks, chain, afterChain}
+use Rattle.chain.proofs.PositionLaws.{position-same}
 use Rattle.words.specs.Words.{WordValues, noWords, wordsOf, words}
 use Rattle.cases.specs.Ignored.{ButAbove, ButIsa}
 use Rattle.cases.proofs.IsaLaws.{same-form, same-enabled, same-set, same-table, same-chain, same-words}
@@ -45,11 +46,7 @@ module _ (r : Record) (level : ℕ) (g h : Grants) (a : ButAbove (r .count) g h)
 
   checks-masks : (i size : ℕ) → chainChecks r level g i size ≡ chainChecks r level h i size
   unfolding chainChecks
-  checks-masks i size =
-      ap
-      (λ (p : List ℕ).
-      askedChecks r level ++ (check (ltb i (r .count)) 16 ∷ check (not (isEnabled r p i)) 17 ∷ check (leb (length (chainIn r p i)) size) 18 ∷ []))
-      same-permitted
+  checks-masks i size = ap (λ (p : List ℕ). askedChecks r level ++ positionChecks (r .count) i (isEnabled r p i) (chainIn r p i) size) same-permitted
 
   pub chain-masks : (i size : ℕ) → chain r level g i size ≡ chain r level h i size
   unfolding chain
@@ -68,17 +65,6 @@ module _ (r : Record) (level : ℕ) (g h : Grants) (a : ButAbove (r .count) g h)
   words-masks =
       ap (λ (v : WordValues). firstFault (refuse noWords) (askedChecks r level) (answer v))
       (words-of-masks (enabledSet r (permittedSet r level g)) ∙ ap (λ (p : List ℕ). wordsOf r level h (enabledSet r p)) same-permitted)
-
--- equal tests, and where they hold the same after them
-check-same : {A : Type 0} (refused : ℕ → A) (b c : Bool) (n : ℕ) (cs ds : List (Check ℕ)) (x y : A) → b ≡ c
-    → (b ≡ true → firstFault refused cs x ≡ firstFault refused ds y) → firstFault refused (check b n ∷ cs) x ≡ firstFault refused (check c n ∷ ds) y
-unfolding firstFault
-check-same {A} refused b c n cs ds x y e f = go b f ∙ ap (λ (t : Bool). firstFault refused (check t n ∷ ds) y) e
-  where
-    go : (t : Bool) → (t ≡ true → firstFault refused cs x ≡ firstFault refused ds y)
-        → firstFault refused (check t n ∷ cs) x ≡ firstFault refused (check t n ∷ ds) y
-    go true f = f refl
-    go false f = refl
 
 -- records that differ only in `isa`
 module _ (r s : Record) (b : ButIsa r s) where
@@ -136,14 +122,9 @@ module _ (r s : Record) (b : ButIsa r s) where
     told {A} refused value i size =
         asked refused level _ _ _ _
         (λ good.
-        check-same refused (ltb i (r .count)) (ltb i (s .count)) 16 _ _ _ _ (ap (ltb i) (sym (b .count)))
-        (λ low.
-        let l = ltb-true i (r .count) low in
-        check-same refused (not (isEnabled r (permittedSet r level g) i)) (not (isEnabled s (permittedSet s level g) i)) 17 _ _ _ _
-        (ap not (same-enabled r s b good (permittedSet r level g) i l ∙ ap (λ (p : List ℕ). isEnabled s p i) permits))
-        (λ out.
-        let c = same-chain r s b good (permittedSet r level g) i l (not-true _ out) ∙ ap (λ (p : List ℕ). chainIn s p i) permits in
-        ap (λ (t : List ℕ). firstFault refused (check (leb (length t) size) 18 ∷ []) (value t)) c)))
+        position-same refused value (r .count) (s .count) i size _ _ _ _ (sym (b .count))
+        (λ l. same-enabled r s b good (permittedSet r level g) i l ∙ ap (λ (p : List ℕ). isEnabled s p i) permits)
+        (λ l out. same-chain r s b good (permittedSet r level g) i l out ∙ ap (λ (p : List ℕ). chainIn s p i) permits))
 
     pub chain-isa : (i size : ℕ) → chain r level g i size ≡ chain s level g i size
     unfolding chain

@@ -28,12 +28,14 @@ use Rattle.closure.specs.Graph.{Below, dependenciesIn, dependencyIn}
 use Rattle.closure.specs.Enabled.{enabled}
 use Rattle.closure.specs.Reach.{reach}
 use Rattle.closure.specs.Shortest.{shortestChain}
+use Rattle.closure.proofs.Sweeps.{sweeps-agree}
+use Rattle.closure.proofs.SameChains.{chains-agree}
 use Rattle.enabled.specs.Answers.{enabledSet}
 use Rattle.reach.specs.Answers.{reachTable}
 use Rattle.chain.specs.Chain.{isEnabled, chainIn}
 use Rattle.words.specs.Words.{wordOf, isNumber, capabilityBit, supportBit, capabilityWord, registerWord, wordsOf}
 use Rattle.cases.specs.Ignored.{ButIsa}
-use Rattle.cases.proofs.GraphLaws.{some-same, reach-same, sweeps-same, chain-same}
+use Rattle.cases.proofs.GraphLaws.{some-same, reach-same}
 
 -- neither the other cells of a feature nor what is asked of them has to do with its `isa`
 same-count : (f : Feature) (x : ℕ) → dependencyCount (withIsa f x) ≡ dependencyCount f
@@ -83,7 +85,7 @@ module _ (r s : Record) (b : ButIsa r s) where
 
     pub same-enabled : (p : List ℕ) (i : ℕ) → i < r .count → isEnabled r p i ≡ isEnabled s p i
     same-enabled p i l =
-        sweeps-same (r .count) (dependenciesIn r) (dependenciesIn s) (dependencyIn r) graph numbers (has p) (r .count) i l
+        sweeps-agree (r .count) (dependenciesIn r) (dependenciesIn s) (dependencyIn r) (has p) (has p) graph (λ i l. refl) (λ i l e. numbers i l) (r .count) i l
         ∙ (λ k. enabled (dependenciesIn s) (λ (i j : ℕ). getD (slots k) (mostDependencies * i + j) 0) (has p) (counts k) i)
 
     pub same-set : (p : List ℕ) → enabledSet r p ≡ enabledSet s p
@@ -102,7 +104,8 @@ module _ (r s : Record) (b : ButIsa r s) where
     unfolding chainIn
     same-chain p i l out =
         let few = formed r good .few in
-        chain-same (r .count) (dependenciesIn r) (dependenciesIn s) (dependencyIn r) graph numbers (has p) room (omega arith) (r .count) i l out
+        chains-agree (r .count) (dependenciesIn r) (dependenciesIn s) (dependencyIn r) (has p) (has p) graph (λ i l. refl) (λ i l e. numbers i l) room
+        (omega arith) (r .count) i l out
         ∙ (λ k. shortestChain (dependenciesIn s) (λ (i j : ℕ). getD (slots k) (mostDependencies * i + j) 0) (has p) room (counts k) i)
 
   -- the words of an enabled set

@@ -7,3 +7,6 @@ pub mod TellLaws
 pub mod ChainLaws
 pub mod Told
 pub mod Answers
+pub mod PositionLaws
+pub mod BoundedLaws
+pub mod BySlotsLaws

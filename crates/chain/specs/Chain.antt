@@ -25,14 +25,15 @@ isEnabled r permitted i = enabled (dependenciesIn r) (dependencyIn r) (has permi
 unfoldable pub chainIn : Record → List ℕ → ℕ → List ℕ
 chainIn r permitted i = shortestChain (dependenciesIn r) (dependencyIn r) (has permitted) room (r .count) i
 
+-- "16, 17, 18": what is asked of position i of n, which is enabled or not, where a chain from it is to be written into some bytes
+abbrev pub positionChecks : ℕ → ℕ → Bool → List ℕ → ℕ → List (Check ℕ)
+positionChecks n i on told size = check (ltb i n) 16 ∷ check (not on) 17 ∷ check (leb (length told) size) 18 ∷ []
+
 -- "Order: 14, 15, 16, 17, 18"; the lent buffer has some bytes
 unfoldable pub chainChecks : Record → ℕ → Grants → ℕ → ℕ → List (Check ℕ)
 chainChecks r level g i size =
     askedChecks r level
-    ++ (check (ltb i (r .count)) 16
-    ∷ check (not (isEnabled r (permittedSet r level g) i)) 17
-    ∷ check (leb (length (chainIn r (permittedSet r level g) i)) size) 18
-    ∷ [])
+    ++ positionChecks (r .count) i (isEnabled r (permittedSet r level g) i) (chainIn r (permittedSet r level g) i) size
 
 -- "Its length is the number of its positions"
 unfoldable pub chain : Record → ℕ → Grants → ℕ → ℕ → Outcome ℕ

@@ -1,12 +1,11 @@
 -- What the functions behind the chain promise: what each sweep leaves, and the way down from a position (document 01, "Permitted and enabled").
 use Prim.Native.Nat.{ℕ, zero, suc, _≤_, _<_}
 use mathlib.Core.Path.{_≡_}
-use mathlib.Core.Bool.{Bool, true, false, not, _&&_}
+use mathlib.Core.Bool.{Bool, true, false, _&&_}
 use mathlib.Core.List.{List, [], _∷_}
-use lib.Dec.{leb, ltb}
 use lib.ListN.{length, getD}
 use Rattle.refusal.specs.Refusal.{answer, refuse}
-use Rattle.refusal.specs.Checks.{Check, check, firstFault}
+use Rattle.refusal.specs.Checks.{Check, firstFault}
 use Rattle.cells.specs.Buffer.{written}
 use Rattle.positions.specs.declared.Position.{Position}
 use Rattle.positions.specs.declared.Position.the-variants.{Nowhere, At}
@@ -17,7 +16,7 @@ use Rattle.tables.specs.Tables.{rowAt}
 use Rattle.closure.specs.Enabled.{enabled}
 use Rattle.closure.specs.Shortest.{shortestChain}
 use Rattle.enabled.specs.Parts.{Shows}
-use Rattle.chain.specs.Chain.{chainOutcome}
+use Rattle.chain.specs.Chain.{positionChecks, chainOutcome}
 use Rattle.chain.specs.declared.ChainTold.{ChainTold}
 use Rattle.chain.specs.declared.Layers.{Layers}
 
@@ -67,10 +66,7 @@ AllBelow n (x ∷ xs) = (x < n) × AllBelow n xs
 -- what is asked of a position in a graph of n positions: "16, 17, 18"
 unfoldable pub graphChecks : (ℕ → ℕ) → (ℕ → ℕ → ℕ) → ℕ → List ℕ → ℕ → ℕ → List (Check ℕ)
 graphChecks num dep n permitted i size =
-    check (ltb i n) 16
-    ∷ check (not (enabled num dep (has permitted) n i)) 17
-    ∷ check (leb (length (shortestChain num dep (has permitted) room n i)) size) 18
-    ∷ []
+    positionChecks n i (enabled num dep (has permitted) n i) (shortestChain num dep (has permitted) room n i) size
 
 -- a table shows some graph
 pub record ShowsSome (n : ℕ) (table : List ℕ) : Type 0 where

@@ -1,2 +1,4 @@
 pub mod Chain
+pub mod Slots
 pub mod Layers
+pub mod Parts

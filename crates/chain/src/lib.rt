@@ -2,8 +2,10 @@
 use permitted::Grants;
 use positions::Position;
 use positions::Set;
+use record::MOST_DEPENDENCIES;
 use record::MOST_FEATURES;
 use record::Record;
+use record::SLOTS;
 use refusal::Refusal;
 use tables::TABLE_WORDS;
 ghost use mathlib.Core.Path.{_≡_};
@@ -12,8 +14,11 @@ ghost use lib.ListN.{length};
 ghost use Rattle.refusal.specs.Refusal.{refuse, numberOf};
 ghost use Rattle.cells.specs.Buffer.{written};
 ghost use Rattle.record.specs.Record.{mostFeatures};
+ghost use Rattle.closure.specs.Slots.{slotsBelow};
 ghost use Rattle.chain.specs.Layers.{swept, setAt, Falls, wayDown, AllBelow, ShowsSome, Tells};
+ghost use Rattle.chain.specs.Parts.{BoundedPart};
 ghost use Rattle.chain.specs.Chain.{chain as chainOf, afterChain, chainOutcome};
+ghost use Rattle.chain.specs.Slots.{chainBySlots, afterChainBySlots};
 
 // A refusal, or how many positions the chain has; 0 beside a refusal.
 pub struct ChainTold {
@@ -27,6 +32,12 @@ struct Layers {
     enabled: bool,
     held: usize,
     sets: [Set; MOST_FEATURES],
+}
+
+// The positions whose dependencies are all below a bound, and how many dependencies each of these has; 0 for every other position.
+struct Bounded {
+    set: Set,
+    counts: [u8; MOST_FEATURES],
 }
 
 // One sweep: the members of a set among the first `n` positions whose rows are inside it. `n` rounds: each reads a row and compares it,
@@ -145,4 +156,69 @@ pub fn chain(r: Record, level: u32, g: Grants, position: u32, out: &mut [u8]) ->
     }
     let rows = tables::dependency_rows(&slots, &x.counts, n);
     chain_in(&rows.words, n, x.set, position as usize, out)
+}
+
+// A slot as a position.
+fn wide(x: u16) -> usize
+    ensures { λ r. ⌜ r ≡ x ⌝ }
+{
+    x as usize
+}
+
+// Whether each dependency of position `i` is one of the first `n` positions: at most sixteen rounds, up to the first that is none.
+fn slots_below(slots: &[u16; SLOTS], counts: &[u8; MOST_FEATURES], n: usize, i: usize) -> bool
+    requires { ⌜ i < mostFeatures ⌝ }
+    ensures { λ r. ⌜ r ≡ slotsBelow (now (slots .entry)) (now (counts .entry)) n i ⌝ }
+{
+    let m = tables::used(counts, i);
+    let mut j: usize = 0;
+    while j < m {
+        if n <= wide(slots[MOST_DEPENDENCIES * i + j]) {
+            return false;
+        }
+        j += 1;
+    }
+    true
+}
+
+// Those of the first `n` positions whose dependencies are all among them: `n` rounds, each of at most sixteen slots.
+fn bounded_part(slots: &[u16; SLOTS], counts: &[u8; MOST_FEATURES], n: usize) -> Bounded
+    requires { ⌜ n ≤ mostFeatures ⌝ }
+    ensures { λ r. ⌜ BoundedPart (now (slots .entry)) (now (counts .entry)) n r ⌝ }
+{
+    let mut set = positions::empty();
+    let mut used: [u8; MOST_FEATURES] = [0; MOST_FEATURES];
+    let mut i: usize = 0;
+    while i < n {
+        if slots_below(slots, counts, n, i) {
+            set = positions::insert(set, i);
+            used[i] = counts[i];
+        }
+        i += 1;
+    }
+    Bounded { set, counts: used }
+}
+
+// The same chain by slots, counts and a set of permitted positions that are handed in, among the first `n` positions, of at most 64: one with
+// a dependency that is none of these is not permitted. Refusals: 16, 17, 18. A pass over the slots, and at most 64 sweeps of 64 rows.
+pub fn chain_by_slots(
+    slots: &[u16; SLOTS],
+    counts: &[u8; MOST_FEATURES],
+    n: usize,
+    p: Set,
+    i: usize,
+    out: &mut [u8],
+) -> ChainTold
+    ensures { λ t.
+        ⌜ chainOutcome t
+        ≡ chainBySlots (now (slots .entry)) (now (counts .entry)) n (p .words) i (length (now (out .entry))) ⌝ }
+    ensures { λ t.
+        ⌜ now (out .exit)
+        ≡ afterChainBySlots (now (slots .entry)) (now (counts .entry)) n (p .words) i (now (out .entry)) ⌝ }
+{
+    let m = cells::least(n, MOST_FEATURES);
+    let x = bounded_part(slots, counts, m);
+    let bounded = x.set;
+    let rows = tables::dependency_rows(slots, &x.counts, m);
+    chain_in(&rows.words, m, sets::intersection(p, bounded), i, out)
 }

@@ -6,8 +6,10 @@ pub mod Reach
 pub mod ByReach
 pub mod Smallest
 pub mod Shortest
+pub mod SameChains
 pub mod Demand3
 pub mod SlotLaws
+pub mod BoundLaws
 pub mod PassLaws
 pub mod SweepLaws
 pub mod PickLaws

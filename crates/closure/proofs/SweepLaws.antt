@@ -1,15 +1,14 @@
 -- Laws of the passes over slots: what is left when a pass takes nothing out is the largest closed part. Assumes nothing.
 use Prim.Native.Nat.{ℕ, _≤_, _<_}
 use mathlib.Core.Path.{_≡_, refl, sym, ap, ap₂, subst, _∙_}
-use mathlib.Core.Bool.{Bool, true, false, _&&_, cond}
+use mathlib.Core.Bool.{Bool, true, false, _&&_}
 use mathlib.Core.List.{List}
 use native.Mathlib.Decide.{decLt}
 use native.Mathlib.Omega.{arith}
 use borrow.Author.Tests.{lt-ltb, le-ltb, ltb-true}
 use lib.Dec.{ltb}
-use Rattle.positions.specs.Below.{every}
 use Rattle.positions.specs.Sets.{setWords, room, has, collect, common, firstPositions, isSubset, memberCount}
-use Rattle.positions.proofs.BelowLaws.{no-way, and-left, and-right, every-at, every-of}
+use Rattle.positions.proofs.BelowLaws.{no-way, and-left, and-right, every-of}
 use Rattle.positions.proofs.SetLaws.{WordList, has-collect, collect-is}
 use Rattle.positions.proofs.MemberLaws.{common-member, subset-at, subset-of, fewer-members}
 use Rattle.positions.proofs.FillLaws.{first-member}
@@ -17,40 +16,30 @@ use Rattle.record.specs.Record.{mostFeatures}
 use Rattle.tables.specs.Slots.{slotNumber, slotOf}
 use Rattle.closure.specs.Graph.{Below}
 use Rattle.closure.specs.Enabled.{enabled}
-use Rattle.closure.specs.Slots.{slotsBelow, closedAmong}
+use Rattle.closure.specs.Slots.{slotsBelow, permittedAmong, closedAmong}
 use Rattle.closure.specs.declared.Left.{Left}
 use Rattle.closure.specs.Parts.{slotsIn, ClosedSet, TakesOut, Passes}
 use Rattle.closure.proofs.Largest.{enabled-permitted, enabled-closed, enabled-holds-all}
 use Rattle.closure.proofs.Sweeps.{sweeps-agree}
 use Rattle.closure.proofs.SlotLaws.{slots-at, slots-of, slots-wider}
+use Rattle.closure.proofs.BoundLaws.{numberWithin, number-within, slot-within, graph-within}
 use Rattle.closure.proofs.PassLaws.{takes-on}
 
 module _ (slots counts : List ℕ) (n : ℕ) (few : n ≤ mostFeatures) where
   abbrev within : ℕ → Bool
   within = slotsBelow slots counts n
 
-  -- the dependencies of the positions that have none outside; they lead to none outside
+  -- the dependencies of the positions that have none outside
   abbrev number : ℕ → ℕ
-  number i = cond (within i) (slotNumber counts i) 0
-
-  number-is : (i : ℕ) → within i ≡ true → number i ≡ slotNumber counts i
-  number-is i e = rw e
-
-  below-at : (i : ℕ) → within i ≡ true → (j : ℕ) → j < slotNumber counts i → slotOf slots i j < n
-  unfolding slotsBelow
-  below-at i e j h = ltb-true (slotOf slots i j) n (every-at (slotNumber counts i) (λ j. ltb (slotOf slots i j) n) e j h)
+  number = numberWithin slots counts n
 
   graph : Below n number (slotOf slots)
-  graph = record { below = λ i h j l. go i j l (within i) refl }
-    where
-      go : (i j : ℕ) → j < number i → (b : Bool) → within i ≡ b → slotOf slots i j < n
-      go i j l true e = below-at i e j (rw e at l)
-      go i j l false e = let z : number i ≡ 0 = rw e in absurd (omega arith)
+  graph = graph-within slots counts n
 
   -- s is a part of the first n of the positions of p that keeps every closed part
   module _ (p s : List ℕ) (g : WordList setWords s) (t : TakesOut (slotsIn slots counts) n (common p (firstPositions n)) s) where
     abbrev permitted : ℕ → Bool
-    permitted i = has p i && within i
+    permitted = permittedAmong slots counts n p
 
     abbrev E : ℕ → Bool
     E = enabled number (slotOf slots) permitted n
@@ -72,7 +61,7 @@ module _ (slots counts : List ℕ) (n : ℕ) (few : n ≤ mostFeatures) where
       inside =
           enabled-holds-all number (slotOf slots) permitted n graph (has s)
           (λ i h e. ap₂ _&&_ (member i (omega arith) e .0) (inside-below i h e))
-          (λ i h e j l. slots-at slots counts i s (c i h e) j (rw (number-is i (inside-below i h e)) at l) .1)
+          (λ i h e j l. slots-at slots counts i s (c i h e) j (rw (number-within slots counts n i (inside-below i h e)) at l) .1)
 
     -- the enabled positions as words: a closed part
     abbrev words : List ℕ
@@ -91,8 +80,8 @@ module _ (slots counts : List ℕ) (n : ℕ) (few : n ≤ mostFeatures) where
     closed i h e =
         let w = and-right (has p i) (within i) (allowed i e) in
         slots-of slots counts i words (λ j l.
-        let b = below-at i w j l in
-        let k = enabled-closed number (slotOf slots) permitted n graph i h (enabled-at i e .1) j (rw (number-is i w) l) in
+        let b = slot-within slots counts n i w j l in
+        let k = enabled-closed number (slotOf slots) permitted n graph i h (enabled-at i e .1) j (rw (number-within slots counts n i w) l) in
         (omega arith, in-words (slotOf slots i j) ∙ ap₂ _&&_ (lt-ltb (slotOf slots i j) n b) k))
 
     start : isSubset words (common p (firstPositions n)) ≡ true
@@ -111,7 +100,7 @@ module _ (slots counts : List ℕ) (n : ℕ) (few : n ≤ mostFeatures) where
         agree : (i : ℕ) → i < n → E i ≡ D i
         agree =
             sweeps-agree n number (slotNumber counts) (slotOf slots) permitted permitted graph (λ i h. refl)
-            (λ i h e. number-is i (and-right (has p i) (within i) e)) n
+            (λ i h e. number-within slots counts n i (and-right (has p i) (within i) e)) n
 
         go : (i : ℕ) → i < room → Dec (i < n) → (b : Bool) → has s i ≡ b → has s i ≡ ltb i n && D i
         go i l (yes h) true e = e ∙ sym (ap₂ _&&_ (lt-ltb i n h) (sym (agree i h) ∙ inside c i h e))

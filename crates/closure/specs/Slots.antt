@@ -13,10 +13,14 @@ use Rattle.closure.specs.Enabled.{enabled}
 unfoldable pub slotsBelow : List ℕ → List ℕ → ℕ → ℕ → Bool
 slotsBelow slots counts n i = every (slotNumber counts i) (λ (j : ℕ). ltb (slotOf slots i j) n)
 
+-- position i is in a set, and each of its dependencies is one of the first n positions
+abbrev pub permittedAmong : List ℕ → List ℕ → ℕ → List ℕ → ℕ → Bool
+permittedAmong slots counts n permitted i = has permitted i && slotsBelow slots counts n i
+
 -- among n positions, the enabled ones where those of a set are permitted; one with a dependency that is none of the n is not permitted
 unfoldable pub closedAmong : List ℕ → List ℕ → ℕ → List ℕ → List ℕ
 closedAmong slots counts n permitted =
-    collect setWords n (enabled (slotNumber counts) (slotOf slots) (λ (i : ℕ). has permitted i && slotsBelow slots counts n i) n)
+    collect setWords n (enabled (slotNumber counts) (slotOf slots) (permittedAmong slots counts n permitted) n)
 
 -- the same of at most 64
 abbrev pub closedPart : List ℕ → List ℕ → ℕ → List ℕ → List ℕ

@@ -1,10 +1,10 @@
--- The counts that an examination gives are those of the record. Assumes nothing.
+-- The counts of a well formed record's dependencies, as an examination gives them, are those of its features. Assumes nothing.
 use Prim.Native.Nat.{ℕ, _-_, min}
-use mathlib.Core.Path.{_≡_, ap, _∙_}
+use mathlib.Core.Path.{_≡_, _∙_}
 use mathlib.Core.Bool.{true}
 use mathlib.Core.List.{List}
 use native.Mathlib.Omega.{arith}
-use lib.ListN.{length, getD, replicate, List·getD-append}
+use lib.ListN.{length, replicate, List·getD-append}
 use Rattle.cells.specs.Rows.{each}
 use Rattle.cells.proofs.Rows.{length-each}
 use Rattle.record.specs.declared.Record.{Record}
@@ -16,14 +16,16 @@ use Rattle.tables.proofs.RowLaws.{each-at}
 use Rattle.closure.specs.Graph.{dependenciesIn}
 use Rattle.enabled.specs.Parts.{CountsOf}
 
-pub seen-counts : (r : Record) → wellFormed r ≡ true → {counts : List ℕ} → counts ≡ dependencyCounts r → CountsOf r counts
+pub record-counts : (r : Record) → wellFormed r ≡ true → CountsOf r (dependencyCounts r)
 unfolding dependencyCounts
-seen-counts r e q = record {
+record-counts r e = record {
   each = λ i h.
       let few = formed r e .few in
       let n = min (r .count) mostFeatures in
-      ap (λ (l : List ℕ). getD l i 0) q
-      ∙ List·getD-append (each n (dependenciesIn r)) (replicate (mostFeatures - length (each n (dependenciesIn r))) 0) 0 i
+      List·getD-append (each n (dependenciesIn r)) (replicate (mostFeatures - length (each n (dependenciesIn r))) 0) 0 i
       (omega (arith, length-each n (dependenciesIn r)))
       ∙ each-at n (dependenciesIn r) i (omega arith);
 }
+
+pub seen-counts : (r : Record) → wellFormed r ≡ true → {counts : List ℕ} → counts ≡ dependencyCounts r → CountsOf r counts
+seen-counts r e q = rw q (record-counts r e)

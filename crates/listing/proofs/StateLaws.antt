@@ -7,10 +7,11 @@ use Prim.Native.Nat.{ℕ, zero, suc, _<_, _≤_}
 use native.Mathlib.Omega.{arith}
 use lib.Dec.{le→leb, lt→ltb}
 use lib.ListN.{length, getD, take, length-take, length-append, length-map}
-use lib.Seq.{getD-take}
+use lib.Seq.{getD-take, take-at}
 use Rattle.characters.specs.Characters.{bytes}
 use Rattle.refusal.specs.Refusal.{Outcome, answer, refuse, numberOf}
 use Rattle.refusal.proofs.Checks.{stops}
+use Rattle.cells.specs.Buffer.{written}
 use Rattle.positions.specs.Sets.{has, memberCount}
 use Rattle.record.specs.declared.Record.{Record}
 use Rattle.record.specs.Record.{mostFeatures}
@@ -123,11 +124,13 @@ module _ {tree : List ℕ} {r : Record} (read : IsRead tree r) where
       out-outcome out = outcome ∙ told-length r user allGranted i read-good (omega arith) low out (length old) (omega (arith, read-few))
 
       out-bytes : isEnabled r (permittedIn r) i ≡ false → take (t .length) listed ≡ given
-      unfolding permittedIn
+      unfolding permittedIn written
       out-bytes out =
           ap₂ (λ (n : ℕ) (l : List ℕ). take n l) (ap (λ (o : Outcome ℕ). o .value) (out-outcome out))
-          (left ∙ ap (λ (x : Grants). afterChain r user x i old) granted)
-          ∙ told-bytes r user allGranted i read-good (omega arith) low out old (omega (arith, read-few))
+          (left
+          ∙ ap (λ (x : Grants). afterChain r user x i old) granted
+          ∙ told-bytes r user allGranted i read-good (omega arith) low out old (omega (arith, read-few)))
+          ∙ take-at given _ (length given) refl
 
       out-positions : isEnabled r (permittedIn r) i ≡ false → Positions listed (t .length)
       out-positions out =

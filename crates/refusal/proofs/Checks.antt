@@ -9,7 +9,7 @@ use lib.Dec.{T, le→leb, lt→ltb, eqb, eqb-refl, not-T, eqb→eq}
 use native.Mathlib.Omega.{arith}
 use lib.Arith.{lt→nleb, le→nltb}
 use Rattle.refusal.specs.Refusal.{answer, refuse, Fault, placed, refuseAt}
-use Rattle.refusal.specs.Checks.{Check, firstFault, faultOf}
+use Rattle.refusal.specs.Checks.{Check, check, firstFault, faultOf}
 
 -- the first k checks hold, and the next one does not
 abbrev pub Stops : {F : Type 0} → ℕ → List (Check F) → Type 0
@@ -98,6 +98,16 @@ module _ {F A : Type 0} (refuse : F → A) where
   stops-in d zero (c ∷ cs) ds a h = fails-here c (cs ++ ds) a h
   stops-in d (suc k) (c ∷ cs) ds a h = rw (holds-on c (cs ++ ds) a (h .0)) (stops-in d k cs ds a (h .1))
   stops-in d k [] ds a h = absurd h
+
+  -- two lists of checks: equal tests in front, and where they hold the same after them
+  pub check-same : (b c : Bool) (f : F) (cs ds : List (Check F)) (x y : A) → b ≡ c → (b ≡ true → firstFault refuse cs x ≡ firstFault refuse ds y)
+      → firstFault refuse (check b f ∷ cs) x ≡ firstFault refuse (check c f ∷ ds) y
+  unfolding firstFault
+  check-same b c f cs ds x y e same = go b same ∙ ap (λ (t : Bool). firstFault refuse (check t f ∷ ds) y) e
+    where
+      go : (t : Bool) → (t ≡ true → firstFault refuse cs x ≡ firstFault refuse ds y) → firstFault refuse (check t f ∷ cs) x ≡ firstFault refuse (check t f ∷ ds) y
+      go true h = h refl
+      go false h = refl
 
 -- every fault is a number of the table, and not 0
 abbrev pub Numbered : List (Check ℕ) → Type 0
