@@ -5,17 +5,8 @@ use mathlib.Core.List.{List}
 use Prim.Native.Nat.{ℕ, _<_, _≤_}
 use native.Mathlib.Omega.{arith}
 use Rattle.cells.specs.Cells.{byteAt, cellAt, wordAt}
-use Rattle.attributes.specs.Attributes.{topBit, paTable}
-
--- two runs of bytes that agree on what is named
-pub record Agree (a b : List ℕ) : Type 0 where
-  pub raw : (k : ℕ) → k < 6 → byteAt a k ≡ byteAt b k
-  pub «data-streams» : topBit (byteAt a 6) ≡ topBit (byteAt b 6)
-  pub coprocessor : (k : ℕ) → 8 ≤ k → k < 16 → byteAt a k ≡ byteAt b k
-  pub vector : topBit (byteAt a 16) ≡ topBit (byteAt b 16)
-  pub «vector-scalar» : topBit (byteAt a 18) ≡ topBit (byteAt b 18)
-  pub «vector-crypto» : topBit (byteAt a 20) ≡ topBit (byteAt b 20)
-  pub «transactional-memory» : topBit (byteAt a 22) ≡ topBit (byteAt b 22)
+use Rattle.attributes.specs.Attributes.{paTable}
+use Rattle.attributes.specs.Reserved.{Agree}
 
 pub reserved-ignored : (a b : List ℕ) → Agree a b → paTable a ≡ paTable b
 unfolding paTable wordAt cellAt
@@ -29,11 +20,11 @@ reserved-ignored a b g =
       at 3 (omega arith),
       at 4 (omega arith),
       at 5 (omega arith),
-      g .«data-streams»,
+      g .dataStreams,
       g .vector,
-      g .«vector-scalar»,
-      g .«vector-crypto»,
-      g .«transactional-memory»,
+      g .vectorScalar,
+      g .vectorCrypto,
+      g .transactionalMemory,
       word 8 (omega arith) (omega arith),
       word 9 (omega arith) (omega arith),
       word 10 (omega arith) (omega arith),

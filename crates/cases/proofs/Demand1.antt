@@ -1,5 +1,5 @@
 -- Demand 1, for all bytes and numbers. Assumes nothing.
-use Prim.Native.Nat.{ℕ, _≤_}
+use Prim.Native.Nat.{ℕ, _≤_, min}
 use mathlib.Core.Path.{refl, sym, subst}
 use mathlib.Core.List.{List, [], _∷_}
 use native.Mathlib.Omega.{arith}
@@ -19,7 +19,7 @@ use Rattle.walk.specs.Faults.{CheckEnds, answered, headerRefused, walkRefused}
 use Rattle.walk.proofs.CheckEnds.{check-ends, check-place}
 use Rattle.positions.specs.Sets.{setOf, collect, noMembers}
 use Rattle.record.specs.declared.Record.{Record}
-use Rattle.record.specs.Record.{noFeatures}
+use Rattle.record.specs.Record.{mostFeatures, noFeatures}
 use Rattle.reading.specs.Ends.{ReadEnds, accepted, walkRefused as treeRefused, checkRefused}
 use Rattle.reading.proofs.Faults.{read-ends}
 use Rattle.reading.proofs.Formed.{read-formed}
@@ -30,11 +30,12 @@ use Rattle.permitted.specs.Asked.{askedChecks, dependencyCounts, examined, perm
 use Rattle.enabled.specs.Answers.{membersOf, enabledSet, enable}
 use Rattle.reach.specs.Answers.{reachTable, reachOf, enabledByTable, enableByTable}
 use Rattle.chain.specs.Chain.{chainIn, chainChecks, chain, afterChain}
+use Rattle.chain.specs.Slots.{slotChain, slotChecks, chainBySlots, afterChainBySlots}
 use Rattle.words.specs.Words.{noWords, words}
 use Rattle.capi.specs.Answers.{formNumber}
 use Rattle.listing.specs.Listing.{lineAt, lineChecks, writeLine, afterLine}
 use Rattle.cases.specs.Ends.{Ends, refused, PlacedEnds, answeredAt, refusedAt, Keeps}
-use Rattle.cases.specs.Demand1.{zeroSet, zeroSeen, zeroMembers, zeroSegments, zeroBytes, Demand1Tree, Demand1Resolver, Demand1Value, Demand1Unit, Demand1Line, Demand1}
+use Rattle.cases.specs.Demand1.{zeroSet, zeroSeen, zeroMembers, zeroSegments, zeroBytes, Demand1Tree, Demand1Resolver, Demand1Slots, Demand1Value, Demand1Unit, Demand1Line, Demand1}
 use Rattle.cases.proofs.EndLaws.{checks-end, checks-keep, fault-one-of}
 use Rattle.cases.proofs.TableNumbers.{sizeNumbers, sizes-numbered, segmentNumbers, segments-numbered, attributeNumbers, attributes-numbered}
 use Rattle.cases.proofs.LookupEnds.{of-lookup}
@@ -101,6 +102,17 @@ module _ (r : Record) (level : ℕ) (g : Grants) where
         checks-keep 0 (length told) buffer (written buffer 0 told) (chainChecks r level g i (length buffer));
   }
 
+-- slots, counts and a set
+of-slots : (slots counts : List ℕ) (n : ℕ) (set : List ℕ) (i : ℕ) (buffer : List ℕ) → Demand1Slots slots counts n set i buffer
+unfolding chainBySlots afterChainBySlots slotChecks
+of-slots slots counts n set i buffer =
+    let told = slotChain slots counts (min n mostFeatures) set i in
+    let checks = slotChecks slots counts (min n mostFeatures) set i (length buffer) in
+    record {
+      slotsEnd = checks-end _ 0 (length told) checks refl;
+      slotsKeep = checks-keep 0 (length told) buffer (written buffer 0 told) checks;
+    }
+
 -- the value of a CPU node's property
 of-value : (value : List ℕ) → Demand1Value value
 unfolding sizes segmentPages tableOf paFeatures piFeatures piTable busFrequency
@@ -153,6 +165,7 @@ pub demand-1 : Demand1
 demand-1 = record {
   trees = of-tree;
   records = of-resolver;
+  slots = of-slots;
   lookups = of-lookup;
   values = of-value;
   texts = of-unit;

@@ -1,7 +1,8 @@
--- "Mask bits at or above the count are ignored in the first two", and "`isa` filters nothing here": no answer tells. Assumes nothing.
+-- "Mask bits at or above the count are ignored in the first two", "`isa` filters nothing here", and of `hv-support` and `os-support` "Only bit 0
+-- .. counts": no answer tells. Assumes nothing.
 use Prim.Native.Nat.{ℕ}
 use mathlib.Core.Path.{_≡_, refl, sym, ap, _∙_}
-use mathlib.Core.Bool.{true}
+use mathlib.Core.Bool.{Bool, true}
 use mathlib.Core.List.{List, [], _++_}
 use lib.Dec.{leb}
 use lib.ListN.{length, replicate}
@@ -11,9 +12,11 @@ use Rattle.refusal.proofs.Checks.{check-same}
 use Rattle.cells.specs.Buffer.{written}
 use Rattle.positions.specs.Sets.{setWords, room, has, collect, setOf, noMembers}
 use Rattle.record.specs.declared.Record.{Record}
+use Rattle.record.specs.declared.Cell.{Cell}
+use Rattle.record.specs.Cells.{lowBit}
 use Rattle.form.specs.WellFormed.{wellFormed}
 use Rattle.permitted.specs.declared.Grants.{Grants}
-use Rattle.permitted.specs.Permitted.{hypervisor, permittedSet}
+use Rattle.permitted.specs.Permitted.{hypervisor, byRegister, isSupported, permittedSet}
 use Rattle.permitted.specs.Asked.{askedChecks, permitted}
 use Rattle.permitted.proofs.GrantLaws.{only-below, isa-ignored}
 use Rattle.tables.specs.Tables.{inRow, tableWords}
@@ -23,7 +26,7 @@ use Rattle.reach.specs.Answers.{reachOf, enabledByTable, enableByTable}
 use Rattle.chain.specs.Chain.{isEnabled, chainIn, positionChecks, chainChecks, chain, afterChain}
 use Rattle.chain.proofs.PositionLaws.{position-same}
 use Rattle.words.specs.Words.{WordValues, noWords, wordsOf, words}
-use Rattle.cases.specs.Ignored.{ButAbove, ButIsa}
+use Rattle.cases.specs.Ignored.{ButAbove, ButIsa, ButOtherBits, absent, given}
 use Rattle.cases.proofs.IsaLaws.{same-form, same-enabled, same-set, same-table, same-chain, same-words}
 
 -- grants that differ only in mask bits at or above the count
@@ -133,3 +136,15 @@ module _ (r s : Record) (b : ButIsa r s) where
     pub after-chain-isa : (i : ℕ) (old : List ℕ) → afterChain r level g i old ≡ afterChain s level g i old
     unfolding afterChain
     after-chain-isa i old = told (λ (n : ℕ). old) (written old 0) i (length old)
+
+-- values of `hv-support` or `os-support` that differ in other bits than bit 0: what is asked of a feature is the same, and so is the test by
+-- which a record is well formed and a bit is set in a word
+pub same-support : {c d : Cell} → ButOtherBits c d → (number : Cell) (mask : ℕ) (ownCode : Bool)
+    → isSupported c number mask ownCode ≡ isSupported d number mask ownCode
+unfolding byRegister
+same-support absent number mask ownCode = refl
+same-support (given m n e) number mask ownCode = rw e
+
+pub same-low-bit : {c d : Cell} → ButOtherBits c d → lowBit c ≡ lowBit d
+same-low-bit absent = refl
+same-low-bit (given m n e) = e

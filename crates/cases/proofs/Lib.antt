@@ -1,10 +1,13 @@
-pub mod Marked
 pub mod EndLaws
 pub mod TableNumbers
 pub mod LookupEnds
 pub mod BlockEnds
 pub mod Demand1
+pub mod Demand2
 pub mod Demand3
+pub mod Rings
+pub mod Marked
+pub mod Refuted
 pub mod GraphLaws
 pub mod IsaLaws
 pub mod Ignored

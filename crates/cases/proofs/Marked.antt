@@ -1,23 +1,23 @@
--- Every case of the list holds: antt computes each. Assumes nothing.
+-- Every case of the list holds: antt computes each, those of features in Rings.antt. Assumes nothing.
 use mathlib.Core.Path.{refl}
+use mathlib.Core.List.{flatMap}
 use Rattle.refusal.specs.Checks.{firstFault}
 use Rattle.characters.specs.Characters.{hexValue, hexDigit}
+use Rattle.cells.specs.Bytes.{cellBytes}
 use Rattle.cells.specs.Cells.{cellAt}
 use Rattle.cells.specs.Buffer.{written}
 use Rattle.unit.specs.Hex.{hexAfter, hexChecks, readHex, digitsOf, hexText, digitCount, writeHex, afterHex}
 use Rattle.unit.specs.Unit.{readUnit, writeUnit, afterUnit}
 use Rattle.sizes.specs.Sizes.{ascends, cellChecks, sizeChecks, noSizes, sizeTable, sizes}
-use Rattle.positions.specs.Below.{every}
-use Rattle.closure.specs.Enabled.{afterSweeps}
-use Rattle.closure.specs.Shortest.{smallestOf, chainWithin}
-use Rattle.cases.specs.Cases.{AllHold, cases}
+use Rattle.cases.specs.Cases.{CasesHold, cases}
+use Rattle.cases.proofs.Rings.{ring-holds, half-holds, half-reported, self-holds}
 
-pub all-hold : AllHold cases
-unfolding firstFault hexValue hexDigit cellAt written hexAfter hexChecks readHex digitsOf hexText digitCount writeHex afterHex readUnit writeUnit afterUnit ascends cellChecks sizeChecks noSizes sizeTable sizes every afterSweeps smallestOf chainWithin
+pub all-hold : CasesHold cases
+unfolding firstFault flatMap cellBytes hexValue hexDigit cellAt written hexAfter hexChecks readHex digitsOf hexText digitCount writeHex afterHex readUnit writeUnit afterUnit ascends cellChecks sizeChecks noSizes sizeTable sizes
 all-hold = (
   (refl, refl),
   (
     (refl, refl),
-    (refl, (refl, (refl, (refl, (refl, (refl, (refl, (refl, (refl, (refl, (refl, (refl, (refl, (refl, (refl, tt))))))))))))))),
+    (refl, (refl, (refl, (refl, (refl, (refl, (refl, (refl, (refl, (refl, (refl, (refl, (ring-holds, (half-holds, (half-reported, (self-holds, tt)))))))))))))))),
   ),
 )

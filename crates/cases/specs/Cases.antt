@@ -1,55 +1,78 @@
 -- The cases marked P (document 01, "Both sides"), as one list, and what it is for a case to hold.
-use Prim.Native.Nat.{ℕ, _/_, _%_}
+use Prim.Native.Nat.{ℕ, _-_}
 use Prim.Native.String.{String}
 use mathlib.Core.Path.{_≡_}
-use mathlib.Core.Bool.{Bool, true, false}
-use mathlib.Core.List.{List, [], _∷_}
-use lib.ListN.{length, getD, replicate}
+use mathlib.Core.List.{List, [], _∷_, flatMap}
+use lib.ListN.{length, replicate}
 use Rattle.characters.specs.Characters.{bytes}
 use Rattle.refusal.specs.Refusal.{Outcome, answer, refuse}
+use Rattle.cells.specs.Bytes.{cellBytes}
 use Rattle.unit.specs.Unit.{readUnit, writeUnit, afterUnit}
 use Rattle.sizes.specs.Sizes.{sizes, noSizes}
 use Rattle.sizes.specs.declared.SizeTable.{SizeTable}
-use Rattle.cells.specs.Rows.{each}
-use Rattle.positions.specs.Sets.{room}
-use Rattle.closure.specs.Enabled.{enabled}
-use Rattle.closure.specs.Shortest.{shortestChain}
+use Rattle.positions.specs.Sets.{setOf, noMembers, firstPositions}
+use Rattle.record.specs.declared.Feature.{Feature}
+use Rattle.record.specs.declared.Record.{Record}
+use Rattle.record.specs.Record.{mostFeatures, slotCount, noFeature}
+use Rattle.permitted.specs.declared.Grants.{Grants}
+use Rattle.permitted.specs.Permitted.{system}
+use Rattle.enabled.specs.Answers.{Members, enable}
+use Rattle.reach.specs.Answers.{reachOf, enableByTable}
+use Rattle.chain.specs.Chain.{chain, afterChain}
 
--- the value of a property that is a run of cells
-abbrev pub valueOf : List ℕ → List ℕ
-valueOf [] = []
-valueOf (c ∷ cs) = (c / 16777216) ∷ (c / 65536 % 256) ∷ (c / 256 % 256) ∷ (c % 256) ∷ valueOf cs
+-- a feature that needs one other, with a value of `usable-privilege`; no support is asked of it
+abbrev pub needing : ℕ → Feature
+needing privilege = record {
+  offset = 0;
+  given = 259;
+  isa = 3000;
+  «usable_privilege» = privilege;
+  «hv_support» = 0;
+  «os_support» = 0;
+  «hfscr_bit_nr» = 0;
+  «fscr_bit_nr» = 0;
+  «hwcap_bit_nr» = 0;
+  phandle = 0;
+  dependencies = 1;
+}
+
+-- A and B, which need each other: A is at position 0 and is usable at system level, B is at position 1
+abbrev pub ring : ℕ → Record
+ring privilege = record {
+  isa = 3000;
+  count = 2;
+  features = needing 2 ∷ needing privilege ∷ replicate (mostFeatures - 2) noFeature;
+  slots = 1 ∷ replicate (slotCount - 1) 0;
+}
+
+-- one feature, usable at system level, which names itself
+abbrev pub selfNeeding : Record
+selfNeeding = record { isa = 3000; count = 1; features = needing 2 ∷ replicate (mostFeatures - 1) noFeature; slots = replicate slotCount 0 }
+
+abbrev pub noGrants : Grants
+noGrants = record { hypervisor = record { words = setOf noMembers }; system = record { words = setOf noMembers }; hfscr = 0; fscr = 0 }
 
 pub data Case : Type 0 where
   writesUnit : (number : ℕ) (text : String) → Case
   readsUnit : (text : String) (outcome : Outcome ℕ) → Case
   pageSizes : (exponents : List ℕ) (outcome : Outcome SizeTable) → Case
-  enables : (needs : List (List ℕ)) (permitted members : List Bool) → Case
-  reports : (needs : List (List ℕ)) (permitted : List Bool) (position : ℕ) (chain : List ℕ) → Case
+  enables : (r : Record) (level : ℕ) (g : Grants) (members : Members) → Case
+  reports : (r : Record) (level : ℕ) (g : Grants) (position : ℕ) (told : List ℕ) → Case
 
--- features by what each needs: how many dependencies the one at a position has, and its j-th
-abbrev pub number : List (List ℕ) → ℕ → ℕ
-number needs i = length (getD needs i [])
-
-abbrev pub dependency : List (List ℕ) → ℕ → ℕ → ℕ
-dependency needs i j = getD (getD needs i []) j 0
-
-abbrev pub isOn : List Bool → ℕ → Bool
-isOn bs i = getD bs i false
-
--- a number is written into a buffer as long as the text; a text is read; cells are read as page sizes; of features by their needs,
--- the enabled ones are those; the chain from a position is that
-abbrev pub Holds : Case → Type 0
-Holds (writesUnit n t) =
+-- a number is written into a buffer as long as the text; a text is read; cells are read as page sizes; of a record, a level and grants,
+-- sweep and table give that set with that count; the chain from a position is written into a buffer that is as long
+abbrev pub CaseHolds : Case → Type 0
+CaseHolds (writesUnit n t) =
     (writeUnit n (length (bytes t)) ≡ answer (length (bytes t))) × (afterUnit n (replicate (length (bytes t)) 0) ≡ bytes t)
-Holds (readsUnit t o) = readUnit (bytes t) ≡ o
-Holds (pageSizes es o) = sizes (valueOf es) ≡ o
-Holds (enables needs ps ms) = each (length needs) (enabled (number needs) (dependency needs) (isOn ps) (length needs)) ≡ ms
-Holds (reports needs ps i c) = shortestChain (number needs) (dependency needs) (isOn ps) room (length needs) i ≡ c
+CaseHolds (readsUnit t o) = readUnit (bytes t) ≡ o
+CaseHolds (pageSizes es o) = sizes (flatMap cellBytes es) ≡ o
+CaseHolds (enables r level g m) = (enable r level g ≡ answer m) × (enableByTable r (reachOf r .value) level g ≡ answer m)
+CaseHolds (reports r level g i told) =
+    (chain r level g i (length told) ≡ answer (length told)) × (afterChain r level g i (replicate (length told) 255) ≡ told)
 
-abbrev pub AllHold : List Case → Type 0
-AllHold [] = Unit
-AllHold (c ∷ cs) = Holds c × AllHold cs
+abbrev pub CasesHold : List Case → Type 0
+CasesHold [] = Unit
+CasesHold (c ∷ cs) = CaseHolds c × CasesHold cs
 
 abbrev pub cases : List Case
 cases =
@@ -71,7 +94,9 @@ cases =
     ∷ pageSizes (64 ∷ []) (refuse noSizes 12)
     ∷ pageSizes [] (refuse noSizes 11)
     -- "A and B need each other, both permitted: both enabled. B unpermitted: none, chain of A is A, B."
-    ∷ enables ((1 ∷ []) ∷ (0 ∷ []) ∷ []) (true ∷ true ∷ []) (true ∷ true ∷ [])
-    ∷ enables ((1 ∷ []) ∷ (0 ∷ []) ∷ []) (true ∷ false ∷ []) (false ∷ false ∷ [])
-    ∷ reports ((1 ∷ []) ∷ (0 ∷ []) ∷ []) (true ∷ false ∷ []) 0 (0 ∷ 1 ∷ [])
+    ∷ enables (ring 2) system noGrants (record { set = firstPositions 2; count = 2 })
+    ∷ enables (ring 4) system noGrants (record { set = setOf noMembers; count = 0 })
+    ∷ reports (ring 4) system noGrants 0 (0 ∷ 1 ∷ [])
+    -- "a ring of permitted features is enabled, a feature naming itself too"
+    ∷ enables selfNeeding system noGrants (record { set = firstPositions 1; count = 1 })
     ∷ []

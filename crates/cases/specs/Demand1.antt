@@ -43,6 +43,7 @@ use Rattle.tables.specs.Tables.{tableWords}
 use Rattle.enabled.specs.Answers.{Members, enable}
 use Rattle.reach.specs.Answers.{reachOf, enableByTable}
 use Rattle.chain.specs.Chain.{chain, afterChain}
+use Rattle.chain.specs.Slots.{chainBySlots, afterChainBySlots}
 use Rattle.words.specs.Words.{noWords, words}
 use Rattle.capi.specs.Answers.{formNumber}
 use Rattle.capi.specs.Properties.{Part, findProperty}
@@ -111,6 +112,11 @@ pub record Demand1Resolver (r : Record) (level : ℕ) (g : Grants) : Type 0 wher
   -- "Order: 14, 15, 16, 17, 18", with length 0; "Lent buffers keep their bytes"
   pub chainEnds : (i : ℕ) (buffer : List ℕ) → Ends (14 ∷ 15 ∷ 16 ∷ 17 ∷ 18 ∷ []) 0 (chain r level g i (length buffer))
   pub chainKeeps : (i : ℕ) (buffer : List ℕ) → Keeps (chain r level g i (length buffer)) buffer (afterChain r level g i buffer)
+
+-- `chain_by_slots`, of slots, counts and a set that are handed in: "16, 17, 18", and the same of a lent buffer
+pub record Demand1Slots (slots counts : List ℕ) (n : ℕ) (set : List ℕ) (i : ℕ) (buffer : List ℕ) : Type 0 where
+  pub slotsEnd : Ends (16 ∷ 17 ∷ 18 ∷ []) 0 (chainBySlots slots counts n set i (length buffer))
+  pub slotsKeep : Keeps (chainBySlots slots counts n set i (length buffer)) buffer (afterChainBySlots slots counts n set i buffer)
 
 -- what a block of tokens is made of, with names in a strings block: `node_name` and `property_name`, `Cursor::step`, `name_refusal` and
 -- `read_properties`
@@ -188,6 +194,7 @@ pub record Demand1Line (tree : List ℕ) (k : ℕ) (buffer : List ℕ) : Type 0 
 pub record Demand1 : Type 0 where
   pub trees : (tree : List ℕ) → Demand1Tree tree
   pub records : (r : Record) (level : ℕ) (g : Grants) → Demand1Resolver r level g
+  pub slots : (slots counts : List ℕ) (n : ℕ) (set : List ℕ) (i : ℕ) (buffer : List ℕ) → Demand1Slots slots counts n set i buffer
   pub lookups : (cpu parent strings name : List ℕ) → Demand1Lookup cpu parent strings name
   pub values : (value : List ℕ) → Demand1Value value
   pub texts : (text : List ℕ) (n : ℕ) (buffer : List ℕ) → Demand1Unit text n buffer

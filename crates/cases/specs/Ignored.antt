@@ -1,8 +1,11 @@
--- What grants and records may differ in where no answer of the enabled set does (document 01, "Permitted and enabled").
+-- What grants, records and cells may differ in where no answer of the enabled set does (document 01, "Permitted and enabled").
 use Prim.Native.Nat.{ℕ, _<_}
 use mathlib.Core.Path.{_≡_}
+use Rattle.positions.specs.Bits.{bit}
 use Rattle.positions.specs.Sets.{has}
 use Rattle.record.specs.declared.Record.{Record}
+use Rattle.record.specs.declared.Cell.{Cell}
+use Rattle.record.specs.declared.Cell.the-variants.{Absent, Given}
 use Rattle.record.specs.Record.{featureAt}
 use Rattle.permitted.specs.declared.Grants.{Grants}
 use Rattle.permitted.specs.Permitted.{withIsa}
@@ -19,3 +22,8 @@ pub record ButIsa (r s : Record) : Type 0 where
   pub count : s .count ≡ r .count
   pub slots : s .slots ≡ r .slots
   pub features : (i : ℕ) → i < r .count → (x : ℕ) × (featureAt s i ≡ withIsa (featureAt r i) x)
+
+-- "`hv-support`, `os-support`: .. Only bit 0 (HFSCR, FSCR) counts. Absent and zero differ": two values may differ in the other bits
+pub data ButOtherBits : Cell → Cell → Type 0 where
+  absent : ButOtherBits Absent Absent
+  given : (m n : ℕ) → bit m 0 ≡ bit n 0 → ButOtherBits (Given m) (Given n)

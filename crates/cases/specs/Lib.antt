@@ -1,5 +1,6 @@
 pub mod Cases
 pub mod Ends
 pub mod Demand1
+pub mod Demand2
 pub mod Demand3
 pub mod Ignored

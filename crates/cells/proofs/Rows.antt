@@ -2,16 +2,26 @@
 use mathlib.Core.Path.{_≡_, refl, sym, ap, _∙_}
 use mathlib.Core.List.{List, [], _∷_, _++_, append-assoc}
 use Prim.Native.Nat.{ℕ, suc, zero, _+_, _-_, _<_, _≤_}
+use native.Mathlib.Decide.{decLt}
 use native.Mathlib.Omega.{arith}
 use native.Mathlib.Numerals.{add-one}
-use lib.ListN.{getD, length, set, take, replicate, length-append, length-replicate}
-use lib.Seq.{set-at, length-take-le, take-suc, take-length}
+use lib.ListN.{getD, length, set, take, replicate, length-append, length-replicate, List·getD-append}
+use lib.Seq.{getD-at, set-at, length-take-le, take-suc, take-length}
 use Rattle.cells.specs.Rows.{each, padded}
 
 module _ {A : Type 0} where
   pub length-each : (n : ℕ) (f : ℕ → A) → length (each n f) ≡ n
   length-each zero f = refl
   length-each (suc n) f = omega (arith, length-append (each n f) (f n ∷ []), length-each n f)
+
+  -- an element of a row
+  pub row-at : (n : ℕ) (f : ℕ → A) (i : ℕ) (d : A) → i < n → getD (each n f) i d ≡ f i
+  row-at zero f i d h = absurd (omega arith)
+  row-at (suc n) f i d h = go (decLt i n) (row-at n f i d)
+    where
+      go : Dec (i < n) → (i < n → getD (each n f) i d ≡ f i) → getD (each n f ++ (f n ∷ [])) i d ≡ f i
+      go (yes l) r = List·getD-append (each n f) (f n ∷ []) d i (omega (arith, length-each n f)) ∙ r l
+      go (no l) r = let e : n ≡ i = omega arith in getD-at (each n f) (f n) [] d i (length-each n f ∙ e) ∙ ap f e
 
   -- a row of a list's elements is the list
   row-take : (d : A) (xs : List A) (f : ℕ → A) → ((i : ℕ) → i < length xs → f i ≡ getD xs i d) → (n : ℕ) → n ≤ length xs → each n f ≡ take n xs

@@ -6,13 +6,12 @@ use mathlib.Core.List.{List}
 use native.Mathlib.Omega.{arith}
 use lib.ListN.{length, replicate, List·getD-append}
 use Rattle.cells.specs.Rows.{each}
-use Rattle.cells.proofs.Rows.{length-each}
+use Rattle.cells.proofs.Rows.{length-each, row-at}
 use Rattle.record.specs.declared.Record.{Record}
 use Rattle.record.specs.Record.{mostFeatures}
 use Rattle.form.specs.WellFormed.{wellFormed}
 use Rattle.form.proofs.Formed.{formed}
 use Rattle.permitted.specs.Asked.{dependencyCounts}
-use Rattle.tables.proofs.RowLaws.{each-at}
 use Rattle.closure.specs.Graph.{dependenciesIn}
 use Rattle.enabled.specs.Parts.{CountsOf}
 
@@ -24,7 +23,7 @@ record-counts r e = record {
       let n = min (r .count) mostFeatures in
       List·getD-append (each n (dependenciesIn r)) (replicate (mostFeatures - length (each n (dependenciesIn r))) 0) 0 i
       (omega (arith, length-each n (dependenciesIn r)))
-      ∙ each-at n (dependenciesIn r) i (omega arith);
+      ∙ row-at n (dependenciesIn r) i 0 (omega arith);
 }
 
 pub seen-counts : (r : Record) → wellFormed r ≡ true → {counts : List ℕ} → counts ≡ dependencyCounts r → CountsOf r counts

@@ -13,3 +13,4 @@ pub mod Decoding
 pub mod AcceptedItems
 pub mod NamedItems
 pub mod NopRemoval
+pub mod Padding

@@ -5,7 +5,6 @@ use mathlib.Core.List.{List, [], _∷_, _++_}
 use Prim.Native.Nat.{ℕ, zero, suc, _+_, _-_, _<_, _≤_}
 use native.Mathlib.Nat.{zero-add}
 use native.Mathlib.Omega.{arith}
-use native.Mathlib.Decide.{decLt}
 use lib.Arith.{lt→nleb, le→nltb}
 use borrow.Author.Tests.{leb-true}
 use lib.Dec.{leb, ltb, le→leb, lt→ltb}
@@ -17,7 +16,7 @@ use Rattle.refusal.proofs.Checks.{Stops, Passes, stops, passes}
 use Rattle.cells.specs.Buffer.{written}
 use Rattle.cells.specs.Rows.{each}
 use Rattle.cells.proofs.Buffer.{length-written}
-use Rattle.cells.proofs.Rows.{length-each}
+use Rattle.cells.proofs.Rows.{length-each, row-at}
 use Rattle.characters.specs.Characters.{bytes}
 use Rattle.positions.specs.Sets.{memberCount}
 use Rattle.record.specs.declared.Record.{Record}
@@ -29,16 +28,6 @@ use Rattle.listing.specs.Listing.{enabledIn, wordsIn, nameOf, lineEnd, n
 use Rattle.listing.specs.declared.LineWritten.{LineWritten}
 use Rattle.listing.specs.Parts.{Put, nameIn, IsRead, Composed, none, some}
 use Rattle.listing.proofs.StateLaws.{feature-names}
-
-each-at : {A : Type 0} (n : ℕ) (f : ℕ → A) (i : ℕ) (d : A) → i < n → getD (each n f) i d ≡ f i
-each-at zero f i d h = absurd (omega arith)
-each-at (suc n) f i d h = go (decLt i n) (each-at n f i d)
-  where
-    go : Dec (i < n) → (i < n → getD (each n f) i d ≡ f i) → getD (each n f ++ (f n ∷ [])) i d ≡ f i
-    go (yes l) r = List·getD-append (each n f) (f n ∷ []) d i (omega (arith, length-each n f)) ∙ r l
-    go (no l) r =
-        let e : i ≡ n = omega arith in
-        ap (λ (k : ℕ). getD (each n f ++ (f n ∷ [])) k d) e ∙ getD-at (each n f) (f n) [] d n (length-each n f) ∙ ap f (sym e)
 
 -- a line is not empty
 ends-line : (text : List ℕ) → 0 < length (text ++ lineEnd)
@@ -118,7 +107,7 @@ module _ {tree : List ℕ} {r : Record} (read : IsRead tree r) where
       ∙ sym
       (line-is (suc i)
       ∙ List·getD-append features (wordsLine r ∷ []) [] i (omega (arith, length-each (r .count) (featureLine (nameOf tree) r)))
-      ∙ each-at (r .count) (featureLine (nameOf tree) r) i [] l)
+      ∙ row-at (r .count) (featureLine (nameOf tree) r) i [] l)
 
   pub words-is : wordsLine r ≡ lineAt tree (suc (r .count))
   unfolding recordLines

@@ -5,3 +5,4 @@ pub mod Entries
 pub mod Finding
 pub mod ReturnedPart
 pub mod Reasons
+pub mod LooksUp

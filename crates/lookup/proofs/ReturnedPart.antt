@@ -19,6 +19,7 @@ use Rattle.lookup.specs.declared.Found.{Found}
 use Rattle.lookup.specs.declared.Found.the-variants.{InCpu, InParent, Nowhere}
 use Rattle.lookup.specs.Lookup.{Held, Block, properties, refused, blockFrom, blockOf, heldAs, orParent, inEither, lookup, partOf, valueOf}
 use Rattle.lookup.specs.Parts.{nameIn}
+use Rattle.lookup.specs.LooksUp.{part, PropertyPart}
 use Rattle.lookup.proofs.Blocks.{checked, held, readStep, block-done, block-step}
 use Rattle.lookup.proofs.Entries.{Lies, lies}
 
@@ -90,10 +91,6 @@ module _ (block strings : List ℕ) where
       go true s f q = let p : k ≡ h = cc in subst (Named name) p (record { isIn = a .0; same = s })
       go false s f q = f q
 
--- the part of a block from a place to another
-abbrev pub part : List ℕ → ℕ → ℕ → List ℕ
-part block from to = take (to - from) (drop from block)
-
 -- its bytes, and what stands behind its head
 module _ (block : List ℕ) (from to : ℕ) where
   part-byte : (i : ℕ) → i < to - from → getD (part block from to) i 0 ≡ getD block (from + i) 0
@@ -120,16 +117,6 @@ module _ (block : List ℕ) (from to : ℕ) where
       ∙ drop-at (take 12 (drop from block)) (take (to - (from + 12)) (drop 12 (drop from block))) 12 l
       ∙ ap (take (to - (from + 12))) (drop-drop 12 from block)
 
--- the part from a place to another is the property of a name: its token, the length of its value, the place of its name, and its value
-pub record PropertyPart (block strings name : List ℕ) (from to : ℕ) : Type 0 where
-  pub head : from + 12 ≤ to
-  pub within : to ≤ length block
-  pub long : length (part block from to) ≡ to - from
-  pub token : cellAt (part block from to) 0 ≡ 3
-  pub size : cellAt (part block from to) 4 ≡ length (valueOf (part block from to))
-  pub named : sameText (nameAt strings 0 (length strings) (cellAt (part block from to) 8)) (ended name) ≡ true
-  pub value : valueOf (part block from to) ≡ take (to - (from + 12)) (drop (from + 12) block)
-
 module _ (block strings name : List ℕ) where
   held-part : {h : Held} → Named block strings name h → PropertyPart block strings name (h .from) (h .to)
   held-part {h} g =
@@ -152,12 +139,12 @@ module _ (block strings name : List ℕ) where
         value = value;
       }
 
-  abbrev Part : List Held → Type 0
+  abbrev pub Part : List Held → Type 0
   Part [] = Unit
   Part (h ∷ hs) = PropertyPart block strings name (h .from) (h .to)
 
   -- of a block that reads as properties
-  read-part : {hs : List Held} → blockOf block strings ≡ properties hs → (ks : List Held) → heldAs name hs ≡ ks → Part ks
+  pub read-part : {hs : List Held} → blockOf block strings ≡ properties hs → (ks : List Held) → heldAs name hs ≡ ks → Part ks
   unfolding blockOf
   read-part e [] k = tt
   read-part {hs} e (h ∷ ks) k = held-part (first-held block strings name hs (subst (AllIn block strings) e (all-from block strings (length block) [] 0)) k)

@@ -1,3 +1,4 @@
 pub mod Lookup
 pub mod Parts
 pub mod Reasons
+pub mod LooksUp

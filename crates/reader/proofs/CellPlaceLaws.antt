@@ -1,14 +1,13 @@
 -- Where the cells of a feature's dependencies lie. Assumes nothing.
-use mathlib.Core.Path.{_≡_, sym, ap, _∙_}
-use mathlib.Core.List.{List, [], _∷_}
-use Prim.Native.Nat.{ℕ, zero, suc, _+_, _*_, _/_, _<_, _≤_}
+use mathlib.Core.Path.{_≡_, sym, _∙_}
+use mathlib.Core.List.{List}
+use Prim.Native.Nat.{ℕ, _+_, _*_, _/_, _<_, _≤_}
 use native.Mathlib.Omega.{arith}
-use native.Mathlib.Decide.{decLt}
-use lib.ListN.{length, getD, take, drop, length-take, length-drop, List·getD-append}
-use lib.Seq.{getD-take, getD-drop, getD-at}
+use lib.ListN.{length, getD, take, drop, length-take, length-drop}
+use lib.Seq.{getD-take, getD-drop}
 use Rattle.cells.specs.Cells.{cellAt}
 use Rattle.cells.specs.Rows.{each}
-use Rattle.cells.proofs.Rows.{length-each}
+use Rattle.cells.proofs.Rows.{length-each, row-at}
 use Rattle.nodes.specs.Values.{Value, cellsOf}
 use Rattle.nodes.specs.Parts.{Lies}
 use Rattle.reader.specs.Parts.{CellsLie}
@@ -25,14 +24,6 @@ cell-inside tree from size at h =
     byte : (i : ℕ) → i < size → getD (take size (drop from tree)) i 0 ≡ getD tree (from + i) 0
     byte i l = getD-take size (drop from tree) i 0 l ∙ getD-drop from tree i 0
 
-each-at : (n : ℕ) (f : ℕ → ℕ) (j : ℕ) → j < n → getD (each n f) j 0 ≡ f j
-each-at zero f j h = absurd (omega arith)
-each-at (suc n) f j h = go (decLt j n) (each-at n f j)
-  where
-    go : Dec (j < n) → (j < n → getD (each n f) j 0 ≡ f j) → getD (each (suc n) f) j 0 ≡ f j
-    go (yes l) at = List·getD-append (each n f) (f n ∷ []) 0 j (omega (arith, length-each n f)) ∙ at l
-    go (no l) at = let e : n ≡ j = omega arith in getD-at (each n f) (f n) [] 0 j (length-each n f ∙ e) ∙ ap f e
-
 -- where the cells of a value lie
 pub cells-lie : {tree : List ℕ} {v : Value} {from size : ℕ} → Lies tree v from size → CellsLie tree (cellsOf v) from
 cells-lie {tree} {v} {from} {size} g =
@@ -45,5 +36,5 @@ cells-lie {tree} {v} {from} {size} g =
       each =
           λ j l.
           let m : j < length bs / 4 = omega (arith, count) in
-          cell-inside tree from size (4 * j) (omega arith) ∙ sym (each-at (length bs / 4) (λ (j : ℕ). cellAt bs (4 * j)) j m);
+          cell-inside tree from size (4 * j) (omega arith) ∙ sym (row-at (length bs / 4) (λ (j : ℕ). cellAt bs (4 * j)) j 0 m);
     })

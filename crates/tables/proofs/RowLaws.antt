@@ -8,26 +8,14 @@ use native.Mathlib.Numerals.{add-one}
 use native.Mathlib.Omega.{arith}
 use borrow.Author.Count.{below-more}
 use borrow.Author.Tests.{lt-ltb, le-ltb}
-use lib.ListN.{length, getD, set, take, length-set, List·getD-append}
-use lib.Seq.{sets, length-sets, getD-append-seam, getD-set-same, getD-set-other, ext-getD, length-take-le, take-suc, take-all}
+use lib.ListN.{length, getD, set, take, length-set}
+use lib.Seq.{sets, length-sets, getD-set-same, getD-set-other, ext-getD, length-take-le, take-suc, take-all}
 use Rattle.cells.specs.Rows.{each}
-use Rattle.cells.proofs.Rows.{length-each}
+use Rattle.cells.proofs.Rows.{length-each, row-at}
 use Rattle.positions.specs.Sets.{setWords, setOf, noMembers}
 use Rattle.record.specs.Record.{mostFeatures}
 use Rattle.tables.specs.Tables.{rowAt, rowOrNone}
 use Rattle.tables.specs.Parts.{withRow, rowPut}
-
-pub each-at : (n : ℕ) (f : ℕ → ℕ) (j : ℕ) → j < n → getD (each n f) j 0 ≡ f j
-each-at zero f j h = absurd (omega arith)
-each-at (suc n) f j h = go (decLt j n) (each-at n f j)
-  where
-    go : Dec (j < n) → (j < n → getD (each n f) j 0 ≡ f j) → getD (each (suc n) f) j 0 ≡ f j
-    go (yes l) ih = List·getD-append (each n f) (f n ∷ []) 0 j (omega (arith, length-each n f)) ∙ ih l
-    go (no l) ih =
-        let e : j ≡ length (each n f) = omega (arith, length-each n f) in
-        let q : n ≡ length (each n f) = omega (arith, length-each n f) in
-        let s : j ≡ n = omega arith in
-        rw s (ap (λ (k : ℕ). getD (each n f ++ f n ∷ []) k 0) q ∙ getD-append-seam (each n f) (f n) [] 0)
 
 -- the words of a row
 pub length-row : (table : List ℕ) (i : ℕ) → length (rowAt table i) ≡ setWords
@@ -36,7 +24,7 @@ length-row table i = length-each setWords (λ (w : ℕ). getD table (setWords * 
 
 pub row-word : (table : List ℕ) (i v : ℕ) → v < setWords → getD (rowAt table i) v 0 ≡ getD table (setWords * i + v) 0
 unfolding rowAt
-row-word table i v h = each-at setWords (λ (w : ℕ). getD table (setWords * i + w) 0) v h
+row-word table i v h = row-at setWords (λ (w : ℕ). getD table (setWords * i + w) 0) v 0 h
 
 pub row-is : (table ws : List ℕ) (i : ℕ) → length ws ≡ setWords → ((v : ℕ) → v < setWords → getD ws v 0 ≡ getD table (setWords * i + v) 0)
     → ws ≡ rowAt table i

@@ -1,11 +1,11 @@
 -- Demand 2, of unit text: "A CPU number written as text reads back as itself; a text read and written again is the same number in its
 -- shortest lower-case form." Assumes nothing.
-use mathlib.Core.Path.{_≡_, sym, ap, subst}
+use mathlib.Core.Path.{_≡_, sym, ap, subst, _∙_}
 use mathlib.Core.List.{List, [], _∷_}
 use Prim.Native.Nat.{ℕ, _+_, _-_, _^_, _<_, _≤_}
 use native.Mathlib.Omega.{arith}
 use lib.Dec.{leb→le}
-use lib.ListN.{length, take, drop}
+use lib.ListN.{length, drop}
 use lib.Seq.{take-append-seam}
 use Rattle.refusal.specs.Refusal.{Outcome, answer, refuse}
 use Rattle.refusal.specs.Checks.{Check, check}
@@ -13,14 +13,10 @@ use Rattle.refusal.proofs.Checks.{Passes, answered, passes, tests}
 use Rattle.cells.specs.Buffer.{written}
 use Rattle.unit.specs.Hex.{hexText, digitCount, fits, writeHex}
 use Rattle.unit.specs.Shortest.{Shortest}
-use Rattle.unit.specs.Unit.{readUnit, writeUnit, afterUnit}
+use Rattle.unit.specs.Unit.{readUnit, writeUnit, afterUnit, textWritten}
 use Rattle.unit.proofs.Digits.{count-least, after-written}
 use Rattle.unit.proofs.Reading.{at-most}
 use Rattle.unit.proofs.RoundTrip.{text-reads, text-shortest, shortest-unique}
-
--- the bytes that a number's writing puts into a buffer
-abbrev pub textWritten : ℕ → List ℕ → List ℕ
-textWritten n old = take (writeUnit n (length old) .value) (afterUnit n old)
 
 text-is : (n : ℕ) (old : List ℕ) → writeUnit n (length old) .number ≡ 0 → textWritten n old ≡ hexText n
 unfolding writeUnit writeHex afterUnit written digitCount
@@ -52,5 +48,6 @@ text-number-text text old n r e =
     subst (Shortest (2 ^ 32 - 1) n) (sym (text-is n old e)) (text-shortest (2 ^ 32 - 1) n m (omega arith))
 
 -- there is one such form
-pub one-shortest : (n : ℕ) (text : List ℕ) → n < 2 ^ 32 → Shortest (2 ^ 32 - 1) n text → text ≡ hexText n
-one-shortest n text h s = shortest-unique (2 ^ 32 - 1) n (omega arith) (omega arith) text s
+pub one-shortest : (n : ℕ) (text other : List ℕ) → n < 2 ^ 32 → Shortest (2 ^ 32 - 1) n text → Shortest (2 ^ 32 - 1) n other → text ≡ other
+one-shortest n text other h s o =
+    shortest-unique (2 ^ 32 - 1) n (omega arith) (omega arith) text s ∙ sym (shortest-unique (2 ^ 32 - 1) n (omega arith) (omega arith) other o)

@@ -1,21 +1,20 @@
 -- "Bytes after the total size are not read": two lent runs of bytes that are the same in what is read are judged alike, refused headers
 -- included. Assumes nothing.
 use mathlib.Core.Path.{_≡_, refl, sym, ap, _∙_}
-use mathlib.Core.Bool.{Bool, true, false}
-use mathlib.Core.List.{List, _∷_, _++_}
+use mathlib.Core.List.{List, _++_}
 use mathlib.Core.Logic.{_↔_}
 use Prim.Native.Nat.{ℕ, zero, suc, _+_, _≤_, max}
 use native.Mathlib.Omega.{arith}
 use native.Mathlib.Decide.{decLe}
-use borrow.Author.Tests.{le-leb, lt-leb}
-use lib.Dec.{T, leb, eqb, leb→le}
+use borrow.Author.Tests.{le-leb, lt-leb, leb-true}
+use lib.Dec.{leb, eqb}
 use lib.ListN.{length, take, drop, length-append, length-take}
 use lib.Seq.{take-take, take-append-le}
-use Rattle.refusal.specs.Refusal.{Fault, Placed}
-use Rattle.refusal.specs.Checks.{Check, check, firstFault}
+use Rattle.refusal.specs.Refusal.{Placed, refuseAt}
+use Rattle.refusal.proofs.Checks.{check-same}
 use Rattle.cells.specs.Cells.{cellAt}
 use Rattle.header.specs.declared.Blocks.{Blocks}
-use Rattle.header.specs.Header.{totalSize, headerBytes, largestTree, blockChecks, headerChecks, blocksOf, judged, header}
+use Rattle.header.specs.Header.{totalSize, headerBytes, largestTree, blockChecks, headerChecks, blocksOf, noBlocks, judged, header}
 use Rattle.header.proofs.Accepted.{header-lies, header-blocks}
 use Rattle.tokens.specs.Tokens.{Token}
 use Rattle.walk.specs.Walk.{Verdict, accepted, refused, beforeRoot, walk, treeTokens}
@@ -64,30 +63,20 @@ module _ (s t : List ℕ) (same : SameTree s t) where
         cell-same long 36 (omega arith),
       )
 
-  -- checks of both: the first test is the same and, where it holds, the others decide the same
-  next-same : (f : Fault) (cs ds : List (Check Fault)) {x y : Bool} → x ≡ y → (T x → judged cs s ≡ judged ds t)
-      → judged (check x f ∷ cs) s ≡ judged (check y f ∷ ds) t
-  unfolding firstFault
-  next-same f cs ds {x} e h = rw (sym e) (go x h)
-    where
-      go : (z : Bool) → (T z → judged cs s ≡ judged ds t) → judged (check z f ∷ cs) s ≡ judged (check z f ∷ ds) t
-      go true k = k tt
-      go false k = refl
-
   pub same-tree-header : header s ≡ header t
   unfolding header headerChecks
   same-tree-header =
-      next-same _ _ _ (test-same (same .header)) (λ l.
-      let long = leb→le headerBytes (length s) l in
+      check-same (refuseAt noBlocks) _ _ _ _ _ _ _ (test-same (same .header)) (λ l.
+      let long = leb-true headerBytes (length s) l in
       let two = read-bounds s .0 in
       let magic : cellAt s 0 ≡ cellAt t 0 = cell-same long 0 (omega arith) in
       let total : totalSize s ≡ totalSize t = cell-same long 4 two in
-      next-same _ _ _ (ap (λ (n : ℕ). eqb n 0xd00dfeed) magic) (λ _.
-      next-same _ _ _ (ap (λ (n : ℕ). leb n largestTree) total) (λ k.
-      let small = leb→le (totalSize s) largestTree k in
-      next-same _ _ _ (ap (leb headerBytes) total) (λ e.
-      next-same _ _ _ (test-same (same .whole long small) ∙ ap (λ (n : ℕ). leb n (length t)) total) (λ _.
-      later-same long small (leb→le headerBytes (totalSize s) e))))))
+      check-same (refuseAt noBlocks) _ _ _ _ _ _ _ (ap (λ (n : ℕ). eqb n 0xd00dfeed) magic) (λ _.
+      check-same (refuseAt noBlocks) _ _ _ _ _ _ _ (ap (λ (n : ℕ). leb n largestTree) total) (λ k.
+      let small = leb-true (totalSize s) largestTree k in
+      check-same (refuseAt noBlocks) _ _ _ _ _ _ _ (ap (leb headerBytes) total) (λ e.
+      check-same (refuseAt noBlocks) _ _ _ _ _ _ _ (test-same (same .whole long small) ∙ ap (λ (n : ℕ). leb n (length t)) total) (λ _.
+      later-same long small (leb-true headerBytes (totalSize s) e))))))
 
   -- the blocks of an accepted header, and the tokens in them
   pub same-tree-blocks : header s .number ≡ 0 → blocksOf s ≡ blocksOf t

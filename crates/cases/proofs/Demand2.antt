@@ -1,0 +1,93 @@
+-- Demand 2, for all bytes and numbers. Assumes nothing.
+use Prim.Native.Nat.{ℕ}
+use mathlib.Core.Path.{_≡_, refl, ap}
+use mathlib.Core.List.{List, [], _∷_}
+use native.Mathlib.Omega.{arith}
+use lib.Dec.{eqb, eqb→eq}
+use lib.ListN.{length}
+use Rattle.refusal.specs.Refusal.{Outcome, answer, refuse}
+use Rattle.refusal.specs.Checks.{check}
+use Rattle.refusal.proofs.Checks.{answered, passes, outcome-number, eq→eqb}
+use Rattle.cells.specs.Cells.{wordAt}
+use Rattle.unit.proofs.Demand2.{number-text-number, eight-bytes, text-number-text, one-shortest}
+use Rattle.sizes.specs.declared.SizeTable.{SizeTable}
+use Rattle.sizes.specs.Sizes.{noSizes, sizeChecks, sizeTable, sizes}
+use Rattle.segments.proofs.Accepted.{segments-accepts, segments-read}
+use Rattle.attributes.specs.declared.PaTable.{PaTable}
+use Rattle.attributes.specs.declared.PiTable.{PiTable}
+use Rattle.attributes.specs.Attributes.{attributeChecks, attributeBytes, paTable, noAttributes, paFeatures, piTable, piFeatures, busFrequency}
+use Rattle.attributes.proofs.Reserved.{reserved-ignored}
+use Rattle.walk.proofs.CheckEnds.{checks-trees}
+use Rattle.lookup.proofs.LooksUp.{looks-up}
+use Rattle.reading.specs.Reading.{readRecord}
+use Rattle.reading.proofs.Accepts.{read-accepts}
+use Rattle.reading.proofs.Faults.{read-ends}
+use Rattle.reading.proofs.Dependencies.{read-holds, read-zeroed, read-dependencies}
+use Rattle.reading.proofs.TotalSize.{same-tree-read}
+use Rattle.listing.proofs.TotalSize.{same-tree-listing, first-listing}
+use Rattle.cases.specs.Demand2.{Demand2Tree, Demand2Lookup, Demand2Value, Demand2Unit, Demand2}
+use Rattle.cases.proofs.EndLaws.{checks-answer}
+use Rattle.cases.proofs.TableNumbers.{sizeNumbers, sizes-numbered, attributeNumbers, attributes-numbered}
+
+of-tree : (tree : List ℕ) → Demand2Tree readRecord tree
+of-tree tree = record {
+  walked = checks-trees tree;
+  accepted = read-accepts tree;
+  ends = read-ends tree;
+  holds = read-holds tree;
+  zeroed = read-zeroed tree;
+  resolved = read-dependencies tree;
+  behind = same-tree-read tree;
+  listBehind = same-tree-listing tree;
+  listFirst = first-listing tree;
+}
+
+of-lookup : (cpu parent strings name : List ℕ) → Demand2Lookup cpu parent strings name
+of-lookup cpu parent strings name = record { looksUp = looks-up cpu parent strings name }
+
+module _ (value : List ℕ) where
+  sizes-read : sizes value .number ≡ 0 → sizes value .value ≡ sizeTable value
+  unfolding sizes
+  sizes-read z = ap (λ (o : Outcome SizeTable). o .value) (checks-answer sizeNumbers noSizes (sizeTable value) refl (sizeChecks value) (sizes-numbered value) z)
+
+  pa-read : paFeatures value .number ≡ 0 → paFeatures value .value ≡ paTable (attributeBytes value)
+  unfolding paFeatures
+  pa-read z =
+      ap (λ (o : Outcome PaTable). o .value)
+      (checks-answer attributeNumbers noAttributes (paTable (attributeBytes value)) refl (attributeChecks value) (attributes-numbered value) z)
+
+  pi-read : piFeatures value .number ≡ 0 → piFeatures value .value ≡ piTable (attributeBytes value)
+  unfolding piFeatures
+  pi-read z =
+      ap (λ (o : Outcome PiTable). o .value)
+      (checks-answer attributeNumbers (piTable []) (piTable (attributeBytes value)) refl (attributeChecks value) (attributes-numbered value) z)
+
+  bus-read : length value ≡ 8 → busFrequency value ≡ answer (wordAt value 0)
+  unfolding busFrequency
+  bus-read e = passes (refuse 0) (check (eqb (length value) 8) 11 ∷ []) (answer (wordAt value 0)) (eq→eqb (length value) 8 e, tt)
+
+  bus-length : busFrequency value .number ≡ 0 → length value ≡ 8
+  unfolding busFrequency
+  bus-length z = eqb→eq (length value) 8 (answered 0 (wordAt value 0) (check (eqb (length value) 8) 11 ∷ []) (omega arith, tt) z .0)
+
+  of-value : Demand2Value value
+  unfolding sizes paFeatures piFeatures
+  of-value = record {
+    sizesNumber = outcome-number noSizes (sizeTable value) (sizeChecks value);
+    sizesRead = sizes-read;
+    segmentsAccepted = segments-accepts value;
+    segmentsRead = λ segments. segments-read segments value;
+    paNumber = outcome-number noAttributes (paTable (attributeBytes value)) (attributeChecks value);
+    piNumber = outcome-number (piTable []) (piTable (attributeBytes value)) (attributeChecks value);
+    paRead = pa-read;
+    piRead = pi-read;
+    reserved = reserved-ignored value;
+    busAccepted = (bus-length, λ e. ap (λ (o : Outcome ℕ). o .number) (bus-read e));
+    busRead = bus-read;
+  }
+
+of-text : Demand2Unit
+of-text = record { readsBack = number-text-number; enough = eight-bytes; shortest = text-number-text; one = one-shortest }
+
+pub demand-2 : Demand2
+demand-2 = record { trees = of-tree; lookups = of-lookup; values = of-value; texts = of-text }

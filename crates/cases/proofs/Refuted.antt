@@ -1,0 +1,98 @@
+-- Programs that do not meet the demands, whatever else they do (document 01, "Promises about the outcome": "Try these against the promises").
+-- Assumes nothing.
+use Prim.Native.Nat.{ℕ, _≤_, _<_}
+use mathlib.Core.Path.{_≡_, sym, ap, _∙_}
+use mathlib.Core.Bool.{true, false, true≢false}
+use mathlib.Core.List.{List}
+use native.Mathlib.Omega.{arith}
+use lib.Dec.{eqb}
+use lib.ListN.{length, replicate, length-replicate}
+use Rattle.refusal.specs.Refusal.{Outcome, Placed}
+use Rattle.positions.specs.Below.{count}
+use Rattle.positions.specs.Bits.{bit}
+use Rattle.positions.specs.Sets.{has}
+use Rattle.record.specs.declared.Record.{Record}
+use Rattle.record.specs.Cells.{bitOf, held, cell, dependencyCount}
+use Rattle.form.specs.WellFormed.{wellFormed}
+use Rattle.permitted.specs.declared.Grants.{Grants}
+use Rattle.permitted.specs.Permitted.{system, hypervisor, permittedSet}
+use Rattle.enabled.specs.Answers.{Members}
+use Rattle.tables.specs.Tables.{inRow}
+use Rattle.closure.specs.Graph.{dependenciesIn, dependencyIn}
+use Rattle.closure.specs.Reach.{Needs, self, via}
+use Rattle.walk.specs.TotalSize.{SameTree}
+use Rattle.reading.specs.Example.{exampleTree}
+use Rattle.reading.proofs.Example.{example-read}
+use Rattle.reading.proofs.Accepts.{read-accepts}
+use Rattle.cases.specs.Cases.{ring, noGrants}
+use Rattle.cases.specs.Demand2.{Demand2Tree}
+use Rattle.cases.specs.Demand3.{IsLeftOut, Demand3Calls, Demand3, Resolver}
+use Rattle.cases.proofs.Rings.{ring-formed, half-formed, ring-on, half-off}
+
+-- readers
+module _ (read : List ℕ → Placed Record) (d : (tree : List ℕ) → Demand2Tree read tree) where
+  -- one that refuses every tree
+  pub refuses-all : ((tree : List ℕ) → read tree .number ≡ 0 → ⊥) → ⊥
+  refuses-all f = f exampleTree (d exampleTree .accepted .1 (read-accepts exampleTree .0 (ap (λ (p : Placed Record). p .number) example-read)))
+
+  -- one whose answer changes with a byte behind the total size
+  pub reads-behind : (s t : List ℕ) → SameTree s t → (read s ≡ read t → ⊥) → ⊥
+  reads-behind s t same f = f (d s .behind t same)
+
+-- resolvers
+module _ (c : Resolver) (d : Demand3 c) where
+  module _ (r : Record) (good : wellFormed r ≡ true) (level : ℕ) (known : level ≤ hypervisor) (g : Grants) where
+    calls : Demand3Calls c r level g
+    calls = d .calls r good level known g
+
+    -- a sweep or a table that refuses a well formed record
+    pub sweep-refuses : (c .sweepCall r level g .number ≡ 0 → ⊥) → ⊥
+    sweep-refuses f = f (ap (λ (o : Outcome Members). o .number) (calls .sweepAnswer))
+
+    pub table-refuses : (c .tableCall r .number ≡ 0 → ⊥) → ⊥
+    table-refuses f = f (ap (λ (o : Outcome (List ℕ)). o .number) (calls .tableAnswer))
+
+    -- a count that is not that of the members
+    pub count-invented : (c .sweepCall r level g .value .count ≡ count (r .count) (has (c .sweepCall r level g .value .set)) → ⊥) → ⊥
+    count-invented f =
+        let e = calls .sweepAnswer in
+        f (ap (λ (o : Outcome Members). o .value .count) e ∙ ap (λ (o : Outcome Members). count (r .count) (has (o .value .set))) (sym e))
+
+    -- a set that has a feature and lacks one of its dependencies
+    pub dependency-lacks : (i j : ℕ) → i < r .count → has (c .sweepCall r level g .value .set) i ≡ true → j < dependenciesIn r i
+        → has (c .sweepCall r level g .value .set) (dependencyIn r i j) ≡ false → ⊥
+    dependency-lacks i j low on h off =
+        let e = ap (λ (o : Outcome Members). o .value .set) (calls .sweepAnswer) in
+        let member = ap (λ (s : List ℕ). has s i) (sym e) ∙ on in
+        true≢false (sym (calls .sets .closed i low member j h) ∙ ap (λ (s : List ℕ). has s (dependencyIn r i j)) (sym e) ∙ off)
+
+    -- a chain that is refused in a buffer that is long enough
+    pub chain-refuses : (i : ℕ) → IsLeftOut r (permittedSet r level g) i → (buffer : List ℕ) → r .count ≤ length buffer
+        → (c .chainCall r level g i (length buffer) .number ≡ 0 → ⊥) → ⊥
+    chain-refuses i out buffer long f = f (ap (λ (o : Outcome ℕ). o .number) (calls .chainAnswer i out buffer long))
+
+  -- a chain that is always refused: A of two features that need each other, the other unpermitted, has one
+  pub chain-never-told : ((r : Record) (level : ℕ) (g : Grants) (i size : ℕ) → c .chainCall r level g i size .number ≡ 0 → ⊥) → ⊥
+  chain-never-told f =
+      let buffer : List ℕ = replicate 2 0 in
+      chain-refuses (ring 4) half-formed system (omega arith) noGrants 0 (omega arith, half-off) buffer (omega (arith, length-replicate {A = ℕ} 2 0))
+      (f (ring 4) system noGrants 0 (length buffer))
+
+  -- a reach table in which each feature has itself alone: A needs B
+  pub itself-alone : ((r : Record) (i t : ℕ) → inRow (c .tableCall r .value) i t ≡ eqb i t) → ⊥
+  unfolding dependencyCount cell held bitOf bit
+  itself-alone f =
+      let two = calls (ring 2) ring-formed system (omega arith) noGrants in
+      let needs : Needs (dependenciesIn (ring 2)) (dependencyIn (ring 2)) 0 1 = via {i = 0} 0 (omega arith) self in
+      true≢false
+      (sym (two .sets .rows 0 1 (omega arith) (omega arith) .1 needs)
+      ∙ ap (λ (o : Outcome (List ℕ)). inRow (o .value) 0 1) (sym (two .tableAnswer))
+      ∙ f (ring 2) 0 1)
+
+  -- a resolver that enables nobody: two permitted features that need each other are enabled
+  pub enables-nobody : ((r : Record) (level : ℕ) (g : Grants) (i : ℕ) → has (c .sweepCall r level g .value .set) i ≡ false) → ⊥
+  enables-nobody f =
+      true≢false
+      (sym ring-on
+      ∙ ap (λ (o : Outcome Members). has (o .value .set) 0) (sym (calls (ring 2) ring-formed system (omega arith) noGrants .sweepAnswer))
+      ∙ f (ring 2) system noGrants 0)

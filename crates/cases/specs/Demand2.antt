@@ -1,0 +1,90 @@
+-- Demand 2, in its own words: what is read of a tree, of the values of a CPU node's properties, and of unit text, over the definitions that
+-- the promises cite. Each request adds its field.
+use Prim.Native.Nat.{ℕ, _-_, _^_, _≤_, _<_}
+use mathlib.Core.Path.{_≡_}
+use mathlib.Core.List.{List, map}
+use mathlib.Core.Logic.{_↔_}
+use lib.ListN.{length, take}
+use Rattle.refusal.specs.Refusal.{Placed, answer}
+use Rattle.refusal.specs.Checks.{faultOf}
+use Rattle.cells.specs.Cells.{wordAt}
+use Rattle.cells.specs.Bytes.{Each, IsByte}
+use Rattle.unit.specs.Unit.{readUnit, writeUnit, textWritten}
+use Rattle.unit.specs.Shortest.{Shortest}
+use Rattle.sizes.specs.Sizes.{sizeChecks, sizeTable, sizes}
+use Rattle.segments.specs.Segments.{tableOf, segmentPages}
+use Rattle.segments.specs.Encoded.{Segment, descriptorOf, Encodes}
+use Rattle.attributes.specs.Attributes.{attributeChecks, attributeBytes, paTable, paFeatures, piTable, piFeatures, busFrequency}
+use Rattle.attributes.specs.Reserved.{Agree}
+use Rattle.header.specs.Header.{largestTree, blocksOf, header}
+use Rattle.walk.specs.Grammar.{withoutNopTokens, Tree}
+use Rattle.walk.specs.Faults.{allTokens}
+use Rattle.walk.specs.Checked.{checkTree}
+use Rattle.walk.specs.TotalSize.{SameTree}
+use Rattle.lookup.specs.Lookup.{lookup, reason}
+use Rattle.lookup.specs.LooksUp.{LooksUp}
+use Rattle.record.specs.declared.Record.{Record}
+use Rattle.reading.specs.Reading.{readRecord}
+use Rattle.reading.specs.Accepted.{containerOf, featuresOf, Accepted}
+use Rattle.reading.specs.Ends.{ReadEnds}
+use Rattle.reading.specs.Resolved.{Holds, Zeroed, Resolved}
+use Rattle.listing.specs.Listing.{listing}
+
+-- "The record read .. [is that] which the Devicetree Specification and the bindings define, as document 01 condenses them": what a
+-- reader answers of a tree
+pub record Demand2Tree (read : List ℕ → Placed Record) (tree : List ℕ) : Type 0 where
+  -- the header is not refused, and the tokens of the structure block, without NOPs, are those of one tree
+  pub walked : checkTree tree .number ≡ 0 ↔ ((header tree .number ≡ 0) × Tree (blocksOf tree .end) (withoutNopTokens (allTokens tree)))
+  -- then one container, with its properties, and features, with theirs, whose phandles and dependencies are as document 01 has them
+  pub accepted : read tree .number ≡ 0 ↔ Accepted tree
+  -- a tree that is not so is refused by the header, at the first faulty token, or by the first check that does not hold
+  pub ends : ReadEnds tree (read tree)
+  -- the record holds the cells of the container and of each feature, and which were given; what is not used is zero; each dependency is
+  -- the position of the one feature that carries the phandle
+  pub holds : read tree .number ≡ 0 → Holds (containerOf tree) (read tree .value)
+  pub zeroed : read tree .number ≡ 0 → Zeroed (read tree .value)
+  pub resolved : read tree .number ≡ 0 → Resolved (featuresOf tree) (read tree .value)
+  -- "Bytes after the total size are not read": neither for the record nor for the list; the lister reads 65,536 bytes of its input
+  pub behind : (other : List ℕ) → SameTree tree other → read tree ≡ read other
+  pub listBehind : (other : List ℕ) → SameTree tree other → listing tree ≡ listing other
+  pub listFirst : listing (take largestTree tree) ≡ listing tree
+
+-- a property of a CPU node: where it is found, and else the reason
+pub record Demand2Lookup (cpu parent strings name : List ℕ) : Type 0 where
+  pub looksUp : LooksUp cpu parent strings name (lookup cpu parent strings name) (reason cpu parent strings name)
+
+-- "the page-size and attribute tables"
+pub record Demand2Value (value : List ℕ) : Type 0 where
+  -- `ibm,processor-page-sizes`, `ibm,processor-segment-sizes`: the first check that does not hold refuses, else the exponents are answered
+  pub sizesNumber : sizes value .number ≡ faultOf (sizeChecks value)
+  pub sizesRead : sizes value .number ≡ 0 → sizes value .value ≡ sizeTable value
+  -- `ibm,segment-page-sizes`: accepted exactly when the bytes are those of 1 to 8 descriptors within bounds, and these are then answered
+  pub segmentsAccepted : Each IsByte value → segmentPages value .number ≡ 0 ↔ ((segments : List Segment) × Encodes segments value)
+  pub segmentsRead : (segments : List Segment) → Encodes segments value → segmentPages value ≡ answer (tableOf (map descriptorOf segments))
+  -- `ibm,pa-features`, `ibm,pi-features`: the same; "One of type 0 is used": its bytes give the attributes, and are handed on raw
+  pub paNumber : paFeatures value .number ≡ faultOf (attributeChecks value)
+  pub piNumber : piFeatures value .number ≡ faultOf (attributeChecks value)
+  pub paRead : paFeatures value .number ≡ 0 → paFeatures value .value ≡ paTable (attributeBytes value)
+  pub piRead : piFeatures value .number ≡ 0 → piFeatures value .value ≡ piTable (attributeBytes value)
+  -- "reserved bits and bytes from 24 are ignored"
+  pub reserved : (other : List ℕ) → Agree value other → paTable value ≡ paTable other
+  -- "two cells, high first"
+  pub busAccepted : busFrequency value .number ≡ 0 ↔ (length value ≡ 8)
+  pub busRead : length value ≡ 8 → busFrequency value ≡ answer (wordAt value 0)
+
+-- "the unit-address text"
+pub record Demand2Unit : Type 0 where
+  -- "A CPU number written as text reads back as itself", and eight bytes are enough to write it
+  pub readsBack : (n : ℕ) (buffer : List ℕ) → n < 2 ^ 32 → writeUnit n (length buffer) .number ≡ 0 → readUnit (textWritten n buffer) ≡ answer n
+  pub enough : (n : ℕ) (buffer : List ℕ) → n < 2 ^ 32 → 8 ≤ length buffer → writeUnit n (length buffer) .number ≡ 0
+  -- "a text read and written again is the same number in its shortest lower-case form", of which there is one
+  pub shortest : (text buffer : List ℕ) (n : ℕ) → readUnit text ≡ answer n → writeUnit n (length buffer) .number ≡ 0
+      → Shortest (2 ^ 32 - 1) n (textWritten n buffer)
+  pub one : (n : ℕ) (text other : List ℕ) → n < 2 ^ 32 → Shortest (2 ^ 32 - 1) n text → Shortest (2 ^ 32 - 1) n other → text ≡ other
+
+-- all of it, for all bytes and numbers
+pub record Demand2 : Type 0 where
+  pub trees : (tree : List ℕ) → Demand2Tree readRecord tree
+  pub lookups : (cpu parent strings name : List ℕ) → Demand2Lookup cpu parent strings name
+  pub values : (value : List ℕ) → Demand2Value value
+  pub texts : Demand2Unit
