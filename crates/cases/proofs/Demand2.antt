@@ -12,12 +12,13 @@ use Rattle.cells.specs.Cells.{wordAt}
 use Rattle.unit.proofs.Demand2.{number-text-number, eight-bytes, text-number-text, one-shortest}
 use Rattle.sizes.specs.declared.SizeTable.{SizeTable}
 use Rattle.sizes.specs.Sizes.{noSizes, sizeChecks, sizeTable, sizes}
-use Rattle.segments.proofs.Accepted.{segments-accepts, segments-read}
+use Rattle.segments.proofs.Accepted.{segments-accepts, segments-read, segments-once}
 use Rattle.attributes.specs.declared.PaTable.{PaTable}
 use Rattle.attributes.specs.declared.PiTable.{PiTable}
 use Rattle.attributes.specs.Attributes.{attributeChecks, attributeBytes, paTable, noAttributes, paFeatures, piTable, piFeatures, busFrequency}
 use Rattle.attributes.proofs.Reserved.{reserved-ignored}
 use Rattle.walk.proofs.CheckEnds.{checks-trees}
+use Rattle.walk.proofs.TotalSize.{changed-behind, more-behind}
 use Rattle.lookup.proofs.LooksUp.{looks-up}
 use Rattle.reading.specs.Reading.{readRecord}
 use Rattle.reading.proofs.Accepts.{read-accepts}
@@ -40,6 +41,8 @@ of-tree tree = record {
   behind = same-tree-read tree;
   listBehind = same-tree-listing tree;
   listFirst = first-listing tree;
+  changed = changed-behind tree;
+  followed = more-behind tree;
 }
 
 of-lookup : (cpu parent strings name : List ℕ) → Demand2Lookup cpu parent strings name
@@ -77,6 +80,7 @@ module _ (value : List ℕ) where
     sizesRead = sizes-read;
     segmentsAccepted = segments-accepts value;
     segmentsRead = λ segments. segments-read segments value;
+    segmentsOnce = λ a b. segments-once a b value;
     paNumber = outcome-number noAttributes (paTable (attributeBytes value)) (attributeChecks value);
     piNumber = outcome-number (piTable []) (piTable (attributeBytes value)) (attributeChecks value);
     paRead = pa-read;

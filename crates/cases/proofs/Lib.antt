@@ -5,7 +5,7 @@ pub mod BlockEnds
 pub mod Demand1
 pub mod Demand2
 pub mod Demand3
-pub mod Rings
+pub mod Cycles
 pub mod Marked
 pub mod Refuted
 pub mod GraphLaws

@@ -1,4 +1,4 @@
--- Every case of the list holds: antt computes each, those of features in Rings.antt. Assumes nothing.
+-- Every case of the list holds: antt computes each, those of features in Cycles.antt. Assumes nothing.
 use mathlib.Core.Path.{refl}
 use mathlib.Core.List.{flatMap}
 use Rattle.refusal.specs.Checks.{firstFault}
@@ -10,7 +10,7 @@ use Rattle.unit.specs.Hex.{hexAfter, hexChecks, readHex, digitsOf, hexText, dig
 use Rattle.unit.specs.Unit.{readUnit, writeUnit, afterUnit}
 use Rattle.sizes.specs.Sizes.{ascends, cellChecks, sizeChecks, noSizes, sizeTable, sizes}
 use Rattle.cases.specs.Cases.{CasesHold, cases}
-use Rattle.cases.proofs.Rings.{ring-holds, half-holds, half-reported, self-holds}
+use Rattle.cases.proofs.Cycles.{cycle-holds, blocked-holds, blocked-reported, self-holds}
 
 pub all-hold : CasesHold cases
 unfolding firstFault flatMap cellBytes hexValue hexDigit cellAt written hexAfter hexChecks readHex digitsOf hexText digitCount writeHex afterHex readUnit writeUnit afterUnit ascends cellChecks sizeChecks noSizes sizeTable sizes
@@ -18,6 +18,6 @@ all-hold = (
   (refl, refl),
   (
     (refl, refl),
-    (refl, (refl, (refl, (refl, (refl, (refl, (refl, (refl, (refl, (refl, (refl, (refl, (ring-holds, (half-holds, (half-reported, (self-holds, tt)))))))))))))))),
+    (refl, (refl, (refl, (refl, (refl, (refl, (refl, (refl, (refl, (refl, (refl, (refl, (cycle-holds, (blocked-holds, (blocked-reported, (self-holds, tt)))))))))))))))),
   ),
 )

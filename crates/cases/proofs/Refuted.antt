@@ -24,10 +24,10 @@ use Rattle.walk.specs.TotalSize.{SameTree}
 use Rattle.reading.specs.Example.{exampleTree}
 use Rattle.reading.proofs.Example.{example-read}
 use Rattle.reading.proofs.Accepts.{read-accepts}
-use Rattle.cases.specs.Cases.{ring, noGrants}
+use Rattle.cases.specs.Cases.{cycle, noGrants}
 use Rattle.cases.specs.Demand2.{Demand2Tree}
 use Rattle.cases.specs.Demand3.{IsLeftOut, Demand3Calls, Demand3, Resolver}
-use Rattle.cases.proofs.Rings.{ring-formed, half-formed, ring-on, half-off}
+use Rattle.cases.proofs.Cycles.{cycle-formed, blocked-formed, cycle-on, blocked-off}
 
 -- readers
 module _ (read : List ℕ → Placed Record) (d : (tree : List ℕ) → Demand2Tree read tree) where
@@ -75,24 +75,24 @@ module _ (c : Resolver) (d : Demand3 c) where
   pub chain-never-told : ((r : Record) (level : ℕ) (g : Grants) (i size : ℕ) → c .chainCall r level g i size .number ≡ 0 → ⊥) → ⊥
   chain-never-told f =
       let buffer : List ℕ = replicate 2 0 in
-      chain-refuses (ring 4) half-formed system (omega arith) noGrants 0 (omega arith, half-off) buffer (omega (arith, length-replicate {A = ℕ} 2 0))
-      (f (ring 4) system noGrants 0 (length buffer))
+      chain-refuses (cycle 4) blocked-formed system (omega arith) noGrants 0 (omega arith, blocked-off) buffer (omega (arith, length-replicate {A = ℕ} 2 0))
+      (f (cycle 4) system noGrants 0 (length buffer))
 
   -- a reach table in which each feature has itself alone: A needs B
   pub itself-alone : ((r : Record) (i t : ℕ) → inRow (c .tableCall r .value) i t ≡ eqb i t) → ⊥
   unfolding dependencyCount cell held bitOf bit
   itself-alone f =
-      let two = calls (ring 2) ring-formed system (omega arith) noGrants in
-      let needs : Needs (dependenciesIn (ring 2)) (dependencyIn (ring 2)) 0 1 = via {i = 0} 0 (omega arith) self in
+      let two = calls (cycle 2) cycle-formed system (omega arith) noGrants in
+      let needs : Needs (dependenciesIn (cycle 2)) (dependencyIn (cycle 2)) 0 1 = via {i = 0} 0 (omega arith) self in
       true≢false
       (sym (two .sets .rows 0 1 (omega arith) (omega arith) .1 needs)
       ∙ ap (λ (o : Outcome (List ℕ)). inRow (o .value) 0 1) (sym (two .tableAnswer))
-      ∙ f (ring 2) 0 1)
+      ∙ f (cycle 2) 0 1)
 
   -- a resolver that enables nobody: two permitted features that need each other are enabled
   pub enables-nobody : ((r : Record) (level : ℕ) (g : Grants) (i : ℕ) → has (c .sweepCall r level g .value .set) i ≡ false) → ⊥
   enables-nobody f =
       true≢false
-      (sym ring-on
-      ∙ ap (λ (o : Outcome Members). has (o .value .set) 0) (sym (calls (ring 2) ring-formed system (omega arith) noGrants .sweepAnswer))
-      ∙ f (ring 2) system noGrants 0)
+      (sym cycle-on
+      ∙ ap (λ (o : Outcome Members). has (o .value .set) 0) (sym (calls (cycle 2) cycle-formed system (omega arith) noGrants .sweepAnswer))
+      ∙ f (cycle 2) system noGrants 0)

@@ -37,8 +37,8 @@ needing privilege = record {
 }
 
 -- A and B, which need each other: A is at position 0 and is usable at system level, B is at position 1
-abbrev pub ring : ℕ → Record
-ring privilege = record {
+abbrev pub cycle : ℕ → Record
+cycle privilege = record {
   isa = 3000;
   count = 2;
   features = needing 2 ∷ needing privilege ∷ replicate (mostFeatures - 2) noFeature;
@@ -94,9 +94,9 @@ cases =
     ∷ pageSizes (64 ∷ []) (refuse noSizes 12)
     ∷ pageSizes [] (refuse noSizes 11)
     -- "A and B need each other, both permitted: both enabled. B unpermitted: none, chain of A is A, B."
-    ∷ enables (ring 2) system noGrants (record { set = firstPositions 2; count = 2 })
-    ∷ enables (ring 4) system noGrants (record { set = setOf noMembers; count = 0 })
-    ∷ reports (ring 4) system noGrants 0 (0 ∷ 1 ∷ [])
+    ∷ enables (cycle 2) system noGrants (record { set = firstPositions 2; count = 2 })
+    ∷ enables (cycle 4) system noGrants (record { set = setOf noMembers; count = 0 })
+    ∷ reports (cycle 4) system noGrants 0 (0 ∷ 1 ∷ [])
     -- "a ring of permitted features is enabled, a feature naming itself too"
     ∷ enables selfNeeding system noGrants (record { set = firstPositions 1; count = 1 })
     ∷ []

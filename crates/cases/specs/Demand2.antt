@@ -1,8 +1,8 @@
 -- Demand 2, in its own words: what is read of a tree, of the values of a CPU node's properties, and of unit text, over the definitions that
 -- the promises cite. Each request adds its field.
-use Prim.Native.Nat.{ℕ, _-_, _^_, _≤_, _<_}
+use Prim.Native.Nat.{ℕ, _-_, _^_, _≤_, _<_, max}
 use mathlib.Core.Path.{_≡_}
-use mathlib.Core.List.{List, map}
+use mathlib.Core.List.{List, _++_, map}
 use mathlib.Core.Logic.{_↔_}
 use lib.ListN.{length, take}
 use Rattle.refusal.specs.Refusal.{Placed, answer}
@@ -16,7 +16,7 @@ use Rattle.segments.specs.Segments.{tableOf, segmentPages}
 use Rattle.segments.specs.Encoded.{Segment, descriptorOf, Encodes}
 use Rattle.attributes.specs.Attributes.{attributeChecks, attributeBytes, paTable, paFeatures, piTable, piFeatures, busFrequency}
 use Rattle.attributes.specs.Reserved.{Agree}
-use Rattle.header.specs.Header.{largestTree, blocksOf, header}
+use Rattle.header.specs.Header.{totalSize, headerBytes, largestTree, blocksOf, header}
 use Rattle.walk.specs.Grammar.{withoutNopTokens, Tree}
 use Rattle.walk.specs.Faults.{allTokens}
 use Rattle.walk.specs.Checked.{checkTree}
@@ -48,6 +48,9 @@ pub record Demand2Tree (read : List ℕ → Placed Record) (tree : List ℕ) : T
   pub behind : (other : List ℕ) → SameTree tree other → read tree ≡ read other
   pub listBehind : (other : List ℕ) → SameTree tree other → listing tree ≡ listing other
   pub listFirst : listing (take largestTree tree) ≡ listing tree
+  -- bytes behind the total size that are others, and bytes that follow
+  pub changed : (other : List ℕ) → length tree ≡ length other → take (max 8 (totalSize tree)) tree ≡ take (max 8 (totalSize tree)) other → SameTree tree other
+  pub followed : (more : List ℕ) → headerBytes ≤ length tree → totalSize tree ≤ length tree → SameTree tree (tree ++ more)
 
 -- a property of a CPU node: where it is found, and else the reason
 pub record Demand2Lookup (cpu parent strings name : List ℕ) : Type 0 where
@@ -61,7 +64,8 @@ pub record Demand2Value (value : List ℕ) : Type 0 where
   -- `ibm,segment-page-sizes`: accepted exactly when the bytes are those of 1 to 8 descriptors within bounds, and these are then answered
   pub segmentsAccepted : Each IsByte value → segmentPages value .number ≡ 0 ↔ ((segments : List Segment) × Encodes segments value)
   pub segmentsRead : (segments : List Segment) → Encodes segments value → segmentPages value ≡ answer (tableOf (map descriptorOf segments))
-  -- `ibm,pa-features`, `ibm,pi-features`: the same; "One of type 0 is used": its bytes give the attributes, and are handed on raw
+  pub segmentsOnce : (a b : List Segment) → Encodes a value → Encodes b value → a ≡ b
+  -- `ibm,pa-features`, `ibm,pi-features`: the first check that does not hold refuses, too; "One of type 0 is used": its bytes give the attributes, and are handed on raw
   pub paNumber : paFeatures value .number ≡ faultOf (attributeChecks value)
   pub piNumber : piFeatures value .number ≡ faultOf (attributeChecks value)
   pub paRead : paFeatures value .number ≡ 0 → paFeatures value .value ≡ paTable (attributeBytes value)

@@ -5,24 +5,26 @@ use mathlib.Core.Bool.{Bool, true, false, cond}
 use mathlib.Core.List.{List}
 use native.Mathlib.Omega.{arith}
 use borrow.Author.Count.{below-more}
+use borrow.Author.Tests.{lt-ltb, le-leb}
 use lib.ListN.{length, getD, replicate, set as store, length-set}
 use lib.Seq.{getD-set-same, getD-set-other}
-use Rattle.positions.specs.Below.{every}
 use Rattle.positions.specs.Sets.{setWords, collect, setOf, noMembers, withMember}
 use Rattle.positions.proofs.SetLaws.{zeros}
-use Rattle.record.specs.Record.{mostFeatures}
+use Rattle.record.specs.Record.{mostFeatures, mostDependencies}
 use Rattle.permitted.proofs.PermittedLaws.{none-yet, next}
-use Rattle.tables.specs.Slots.{slotNumber}
-use Rattle.form.specs.Slots.{slotBelow}
+use Rattle.tables.specs.Slots.{slotNumber, usedSlots}
+use Rattle.form.specs.Slots.{slotBelow, slotsFit, slotsFitAt}
 use Rattle.closure.specs.Slots.{slotsBelow}
 use Rattle.chain.specs.Parts.{BoundedPart}
 use Rattle.chain.specs.declared.Bounded.{Bounded}
 
--- the slots of a position, as many as it uses
-pub slots-below-is : (slots counts : List ℕ) (n i : ℕ) {m : ℕ} {b : Bool} → m ≡ slotNumber counts i → b ≡ every m (slotBelow slots n i)
+-- what the test of a position's slots, as many as it uses, answers
+pub slots-fit-is : (slots counts : List ℕ) (n i : ℕ) {m : ℕ} {b : Bool} → i < mostFeatures → m ≡ usedSlots counts i → b ≡ slotsFitAt slots n i m
     → b ≡ slotsBelow slots counts n i
-unfolding slotsBelow slotBelow
-slots-below-is slots counts n i e q = q ∙ rw e
+unfolding usedSlots slotsFitAt slotsFit slotBelow slotsBelow
+slots-fit-is slots counts n i {m} h e q =
+    let used : m ≡ slotNumber counts i = e ∙ rw (lt-ltb i mostFeatures h) in
+    q ∙ rw (lt-ltb i mostFeatures h, used, le-leb (slotNumber counts i) mostDependencies (omega arith))
 
 -- the first i of n positions are gathered
 pub record BoundedTo (slots counts : List ℕ) (n i : ℕ) (set used : List ℕ) : Type 0 where

@@ -2,7 +2,6 @@
 use permitted::Grants;
 use positions::Position;
 use positions::Set;
-use record::MOST_DEPENDENCIES;
 use record::MOST_FEATURES;
 use record::Record;
 use record::SLOTS;
@@ -14,7 +13,6 @@ ghost use lib.ListN.{length};
 ghost use Rattle.refusal.specs.Refusal.{refuse, numberOf};
 ghost use Rattle.cells.specs.Buffer.{written};
 ghost use Rattle.record.specs.Record.{mostFeatures};
-ghost use Rattle.closure.specs.Slots.{slotsBelow};
 ghost use Rattle.chain.specs.Layers.{swept, setAt, Falls, wayDown, AllBelow, ShowsSome, Tells};
 ghost use Rattle.chain.specs.Parts.{BoundedPart};
 ghost use Rattle.chain.specs.Chain.{chain as chainOf, afterChain, chainOutcome};
@@ -158,29 +156,6 @@ pub fn chain(r: Record, level: u32, g: Grants, position: u32, out: &mut [u8]) ->
     chain_in(&rows.words, n, x.set, position as usize, out)
 }
 
-// A slot as a position.
-fn wide(x: u16) -> usize
-    ensures { λ r. ⌜ r ≡ x ⌝ }
-{
-    x as usize
-}
-
-// Whether each dependency of position `i` is one of the first `n` positions: at most sixteen rounds, up to the first that is none.
-fn slots_below(slots: &[u16; SLOTS], counts: &[u8; MOST_FEATURES], n: usize, i: usize) -> bool
-    requires { ⌜ i < mostFeatures ⌝ }
-    ensures { λ r. ⌜ r ≡ slotsBelow (now (slots .entry)) (now (counts .entry)) n i ⌝ }
-{
-    let m = tables::used(counts, i);
-    let mut j: usize = 0;
-    while j < m {
-        if n <= wide(slots[MOST_DEPENDENCIES * i + j]) {
-            return false;
-        }
-        j += 1;
-    }
-    true
-}
-
 // Those of the first `n` positions whose dependencies are all among them: `n` rounds, each of at most sixteen slots.
 fn bounded_part(slots: &[u16; SLOTS], counts: &[u8; MOST_FEATURES], n: usize) -> Bounded
     requires { ⌜ n ≤ mostFeatures ⌝ }
@@ -190,7 +165,7 @@ fn bounded_part(slots: &[u16; SLOTS], counts: &[u8; MOST_FEATURES], n: usize) ->
     let mut used: [u8; MOST_FEATURES] = [0; MOST_FEATURES];
     let mut i: usize = 0;
     while i < n {
-        if slots_below(slots, counts, n, i) {
+        if form::slots_fit(slots, n as u32, i, tables::used(counts, i)) {
             set = positions::insert(set, i);
             used[i] = counts[i];
         }

@@ -13,7 +13,7 @@ use Rattle.positions.proofs.BelowLaws.{and-left, and-right, and-false, every-no
 use Rattle.record.specs.Record.{mostFeatures, mostDependencies, featureAt}
 use Rattle.record.specs.Cells.{dependencyCount}
 use Rattle.form.specs.WellFormed.{bitsFit, dependenciesFit, featureFits, wellFormed}
-use Rattle.form.specs.Slots.{slotBelow, slotsFit, SlotsUpTo, fitsAt}
+use Rattle.form.specs.Slots.{slotBelow, slotsFit, slotsFitAt, SlotsUpTo, fitsAt}
 use Rattle.record.specs.declared.Feature.{Feature}
 use Rattle.record.specs.declared.Record.{Record}
 
@@ -45,6 +45,15 @@ module _ (slots : List ℕ) (count i : ℕ) where
   slots-largest n h up l =
       slots-each n h (sym (every-of n (slotBelow slots count i)
       (λ j k. let u = up j (omega arith) in lt-ltb (getD slots (mostDependencies * i + j) 0) count (omega arith))))
+
+  -- of one of 64 positions, and past the last
+  pub slots-at : (n : ℕ) {b : Bool} → i < mostFeatures → b ≡ slotsFit slots count i n → b ≡ slotsFitAt slots count i n
+  unfolding slotsFitAt
+  slots-at n h e = rw (lt-ltb i mostFeatures h) e
+
+  pub slots-past : (n : ℕ) → mostFeatures ≤ i → false ≡ slotsFitAt slots count i n
+  unfolding slotsFitAt
+  slots-past n h = rw (le-ltb i mostFeatures h)
 
   -- the ways through the test of a feature
   module _ (f : Feature) where

@@ -18,6 +18,10 @@ slotBelow slots count i j = ltb (getD slots (mostDependencies * i + j) 0) count
 unfoldable pub slotsFit : List ℕ → ℕ → ℕ → ℕ → Bool
 slotsFit slots count i n = leb n mostDependencies && every n (slotBelow slots count i)
 
+-- the same of position i, which is one of 64
+unfoldable pub slotsFitAt : List ℕ → ℕ → ℕ → ℕ → Bool
+slotsFitAt slots count i n = ltb i mostFeatures && slotsFit slots count i n
+
 -- none of the slots of position i is above a number
 abbrev pub SlotsUpTo : List ℕ → ℕ → ℕ → Type 0
 SlotsUpTo slots i most = (j : ℕ) → j < mostDependencies → getD slots (mostDependencies * i + j) 0 ≤ most

@@ -18,7 +18,7 @@ ghost use Rattle.positions.specs.Below.{every};
 ghost use Rattle.record.specs.Record.{mostFeatures, mostDependencies};
 ghost use Rattle.record.specs.Cells.{lowBit};
 ghost use Rattle.form.specs.WellFormed.{bitFits, bitsFit, wellFormed};
-ghost use Rattle.form.specs.Slots.{slotBelow, slotsFit, SlotsUpTo, fitsAt};
+ghost use Rattle.form.specs.Slots.{slotBelow, slotsFit, slotsFitAt, SlotsUpTo, fitsAt};
 
 // Up to so many dependencies are tested one by one.
 const FEW: usize = 4;
@@ -125,6 +125,16 @@ fn many_fit(slots: &[u16; SLOTS], count: u32, i: usize, n: usize) -> bool
         return true;
     }
     dependencies_fit(slots, count, i, n)
+}
+
+// Whether position `i`, one of 64, has at most sixteen dependencies, `n`, and each is below the count.
+pub fn slots_fit(slots: &[u16; SLOTS], count: u32, i: usize, n: usize) -> bool
+    ensures { λ r. ⌜ r ≡ slotsFitAt (now (slots .entry)) count i n ⌝ }
+{
+    if i < MOST_FEATURES {
+        return dependencies_fit(slots, count, i, n);
+    }
+    false
 }
 
 // Whether a feature fits at position `i` of a record with these slots and this count; none does past the last position.

@@ -14,7 +14,7 @@ use Rattle.names.specs.Names.{isPropertyName, sameText}
 use Rattle.tokens.specs.declared.Step.{Step}
 use Rattle.tokens.specs.declared.Step.the-variants.{BeginNode, EndNode, Property, Nop, End, Fault}
 use Rattle.tokens.specs.Steps.{stepAt}
-use Rattle.properties.specs.Properties.{nameAt, among}
+use Rattle.properties.specs.Properties.{among}
 use Rattle.lookup.specs.declared.Found.{Found}
 use Rattle.lookup.specs.declared.Found.the-variants.{InCpu, InParent, Nowhere}
 use Rattle.lookup.specs.Lookup.{Held, Block, properties, refused, blockFrom, blockOf, heldAs, orParent, inEither, lookup, partOf, valueOf}

@@ -5,7 +5,7 @@ use mathlib.Core.Logic.{⊎-elim}
 use native.Mathlib.Omega.{arith}
 use borrow.Author.Needs.{needs}
 use Rattle.positions.specs.declared.Set.{Set}
-use Rattle.chain.proofs.BoundedLaws.{BoundedTo, bounded-none, bounded-in, bounded-out, bounded-all}
+use Rattle.chain.proofs.BoundedLaws.{slots-fit-is, BoundedTo, bounded-none, bounded-in, bounded-out, bounded-all}
 use Rattle.chain.proofs.bounded_part.Statement.{statement}
 use Rattle.chain.proofs.bounded_part.Tie as tie
 
@@ -21,17 +21,23 @@ empty-requires c κs = search needs
 loop-holds : tie.Need-loop-holds Inv-loop μ-loop
 loop-holds c = bounded-none _ _ _ (c .before .pre) (c .empty .ensures) refl
 
-slots-below-requires : tie.Need-slots-below-requires Inv-loop μ-loop
-slots-below-requires c κs = omega (arith, c .before .loop .inv .few)
+cast-slots-fit : tie.Need-cast-slots-fit Inv-loop μ-loop
+cast-slots-fit c = omega (arith, c .before .loop .inv .few)
+
+used-requires : tie.Need-used-requires Inv-loop μ-loop
+used-requires c κs = search needs
+
+slots-fit-requires : tie.Need-slots-fit-requires Inv-loop μ-loop
+slots-fit-requires c κs = search needs
 
 insert-requires : tie.Need-insert-requires Inv-loop μ-loop
 insert-requires c κs = search needs
 
 element-copy-out-used : tie.Need-element-copy-out-used Inv-loop μ-loop
-element-copy-out-used c = omega (arith, c .before .before .before .before .loop .inv .few)
+element-copy-out-used c = omega (arith, c .before .before .before .before .before .loop .inv .few)
 
 array-write-used : tie.Need-array-write-used Inv-loop μ-loop
-array-write-used c = omega (arith, c .before .before .before .before .before .loop .inv .few)
+array-write-used c = omega (arith, c .before .before .before .before .before .before .loop .inv .few)
 
 add-i : tie.Need-add-i Inv-loop μ-loop
 add-i c = search needs
@@ -41,8 +47,8 @@ loop-less c = omega arith
 
 loop-again : tie.Need-loop-again Inv-loop μ-loop
 loop-again c =
-    let inv = c .before .before .before .loop .inv in
-    let test = c .before .slots-below .ensures in
+    let inv = c .before .before .before .before .loop .inv in
+    let test = slots-fit-is _ _ _ _ (omega (arith, inv .few)) (c .before .before .used .ensures) (c .before .slots-fit .ensures) in
     ⊎-elim (λ w. bounded-in _ _ _ _ inv (omega arith) test (w .0 .taken) (ap (λ (s : Set). s .words) (w .3) ∙ w .1 .ensures) (w .4))
     (λ w. bounded-out _ _ _ _ inv (omega arith) test (w .0 .left) (ap (λ (s : Set). s .words) (w .1)) (w .2)) (c .if1 .came)
 
@@ -57,7 +63,9 @@ bounded-part-spec =
     μ-loop
     empty-requires
     loop-holds
-    slots-below-requires
+    cast-slots-fit
+    used-requires
+    slots-fit-requires
     insert-requires
     element-copy-out-used
     array-write-used

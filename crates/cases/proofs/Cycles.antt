@@ -22,7 +22,7 @@ use Rattle.enabled.specs.Answers.{enabledSet}
 use Rattle.reach.specs.Answers.{enableByTable}
 use Rattle.chain.specs.Chain.{chainIn, chain}
 use Rattle.cases.specs.Demand3.{isOn, Demand3Calls, resolver}
-use Rattle.cases.specs.Cases.{ring, selfNeeding, noGrants, CaseHolds, enables, reports}
+use Rattle.cases.specs.Cases.{cycle, selfNeeding, noGrants, CaseHolds, enables, reports}
 use Rattle.cases.proofs.Demand3.{demand-3}
 
 -- a well formed record at a level under grants, by the set that is permitted
@@ -51,57 +51,57 @@ module _ (r : Record) (good : wellFormed r ≡ true) (level : ℕ) (known : leve
       )
 
 -- A and B are permitted
-pub ring-formed : wellFormed (ring 2) ≡ true
+pub cycle-formed : wellFormed (cycle 2) ≡ true
 unfolding every bit bitOf held cell dependencyCount bitsFit dependenciesFit wellFormed
-ring-formed = refl
+cycle-formed = refl
 
-ring-permitted : permittedSet (ring 2) system noGrants ≡ 3 ∷ []
+cycle-permitted : permittedSet (cycle 2) system noGrants ≡ 3 ∷ []
 unfolding bit has insertAt collect setOf noMembers bitOf held cell byRegister isSupportedBelow isPermitted permittedSet
-ring-permitted = refl
+cycle-permitted = refl
 
-ring-enabled : enabledSet (ring 2) (3 ∷ []) ≡ firstPositions 2
+cycle-enabled : enabledSet (cycle 2) (3 ∷ []) ≡ firstPositions 2
 unfolding every bit has insertAt collect setOf firstPositions bitOf held cell dependencyCount afterSweeps enabledSet
-ring-enabled = refl
+cycle-enabled = refl
 
 -- position 0 is enabled
-pub ring-on : isOn (ring 2) (permittedSet (ring 2) system noGrants) 0 ≡ true
+pub cycle-on : isOn (cycle 2) (permittedSet (cycle 2) system noGrants) 0 ≡ true
 unfolding has bit firstPositions setOf collect insertAt
-ring-on = ap (λ (p : List ℕ). has (enabledSet (ring 2) p) 0) ring-permitted ∙ ap (λ (s : List ℕ). has s 0) ring-enabled
+cycle-on = ap (λ (p : List ℕ). has (enabledSet (cycle 2) p) 0) cycle-permitted ∙ ap (λ (s : List ℕ). has s 0) cycle-enabled
 
-pub ring-holds : CaseHolds (enables (ring 2) system noGrants (record { set = firstPositions 2; count = 2 }))
+pub cycle-holds : CaseHolds (enables (cycle 2) system noGrants (record { set = firstPositions 2; count = 2 }))
 unfolding memberCount count has bit firstPositions setOf collect insertAt
-ring-holds = enables-is (ring 2) ring-formed system (omega arith) noGrants ring-permitted ring-enabled refl
+cycle-holds = enables-is (cycle 2) cycle-formed system (omega arith) noGrants cycle-permitted cycle-enabled refl
 
 -- B is not permitted
-pub half-formed : wellFormed (ring 4) ≡ true
+pub blocked-formed : wellFormed (cycle 4) ≡ true
 unfolding every bit bitOf held cell dependencyCount bitsFit dependenciesFit wellFormed
-half-formed = refl
+blocked-formed = refl
 
-half-permitted : permittedSet (ring 4) system noGrants ≡ 1 ∷ []
+blocked-permitted : permittedSet (cycle 4) system noGrants ≡ 1 ∷ []
 unfolding bit has insertAt collect setOf noMembers bitOf held cell byRegister isSupportedBelow isPermitted permittedSet
-half-permitted = refl
+blocked-permitted = refl
 
-half-enabled : enabledSet (ring 4) (1 ∷ []) ≡ setOf noMembers
+blocked-enabled : enabledSet (cycle 4) (1 ∷ []) ≡ setOf noMembers
 unfolding every bit has insertAt collect setOf noMembers bitOf held cell dependencyCount afterSweeps enabledSet
-half-enabled = refl
+blocked-enabled = refl
 
-half-chain : chainIn (ring 4) (1 ∷ []) 0 ≡ 0 ∷ 1 ∷ []
+blocked-chain : chainIn (cycle 4) (1 ∷ []) 0 ≡ 0 ∷ 1 ∷ []
 unfolding every bit has bitOf held cell dependencyCount afterSweeps smallestOf chainWithin chainIn
-half-chain = refl
+blocked-chain = refl
 
 -- position 0 is not enabled
-pub half-off : isOn (ring 4) (permittedSet (ring 4) system noGrants) 0 ≡ false
+pub blocked-off : isOn (cycle 4) (permittedSet (cycle 4) system noGrants) 0 ≡ false
 unfolding has bit setOf noMembers collect insertAt
-half-off = ap (λ (p : List ℕ). has (enabledSet (ring 4) p) 0) half-permitted ∙ ap (λ (s : List ℕ). has s 0) half-enabled
+blocked-off = ap (λ (p : List ℕ). has (enabledSet (cycle 4) p) 0) blocked-permitted ∙ ap (λ (s : List ℕ). has s 0) blocked-enabled
 
-pub half-holds : CaseHolds (enables (ring 4) system noGrants (record { set = setOf noMembers; count = 0 }))
+pub blocked-holds : CaseHolds (enables (cycle 4) system noGrants (record { set = setOf noMembers; count = 0 }))
 unfolding memberCount count has bit setOf noMembers collect insertAt
-half-holds = enables-is (ring 4) half-formed system (omega arith) noGrants half-permitted half-enabled refl
+blocked-holds = enables-is (cycle 4) blocked-formed system (omega arith) noGrants blocked-permitted blocked-enabled refl
 
-pub half-reported : CaseHolds (reports (ring 4) system noGrants 0 (0 ∷ 1 ∷ []))
+pub blocked-reported : CaseHolds (reports (cycle 4) system noGrants 0 (0 ∷ 1 ∷ []))
 unfolding has bit setOf noMembers collect insertAt written
-half-reported =
-    reports-is (ring 4) half-formed system (omega arith) noGrants half-permitted 0 (omega arith) (ap (λ (s : List ℕ). has s 0) half-enabled) half-chain (omega arith) refl
+blocked-reported =
+    reports-is (cycle 4) blocked-formed system (omega arith) noGrants blocked-permitted 0 (omega arith) (ap (λ (s : List ℕ). has s 0) blocked-enabled) blocked-chain (omega arith) refl
 
 -- a feature that names itself
 self-formed : wellFormed selfNeeding ≡ true
