@@ -71,6 +71,7 @@ extern "C" {
 #define YEBKUZAN_TABLE_WORDS 64u        /* words of the rows of a reach table */
 #define YEBKUZAN_MOST_SIZES 16u         /* page or segment sizes of a table */
 #define YEBKUZAN_LARGEST_EXPONENT 63u   /* exponent of a size */
+#define YEBKUZAN_NO_SIZE 4294967295u    /* in the place of an exponent of segment sizes: no size here */
 #define YEBKUZAN_MOST_DESCRIPTORS 8u    /* segment descriptors of a table */
 #define YEBKUZAN_MOST_PAGES 8u          /* pages of a segment descriptor */
 #define YEBKUZAN_MOST_BYTES 254u        /* bytes of an attribute descriptor */
@@ -153,7 +154,10 @@ typedef struct YebkuzanRows {
     uint64_t words[YEBKUZAN_TABLE_WORDS];
 } YebkuzanRows;
 
-/* Exponents of powers of two, ascending: `count` of them. */
+/*
+ * Exponents of powers of two, ascending, one for each of `count` cells in its place; in segment sizes a place may hold YEBKUZAN_NO_SIZE
+ * instead. Places past the count are 0.
+ */
 typedef struct YebkuzanSizeTable {
     uint32_t count;
     uint32_t exponents[YEBKUZAN_MOST_SIZES];
@@ -354,7 +358,10 @@ uint32_t yebkuzan_lookup_reason(const uint8_t *cpu, size_t cpu_length, const uin
 /* ibm,processor-page-sizes. 11 for no bytes or no whole cells, 8 for more than 16 cells; then cell by cell 12, 19. */
 YebkuzanSizes yebkuzan_page_sizes(const uint8_t *value, size_t value_length);
 
-/* ibm,processor-segment-sizes. The same. */
+/*
+ * ibm,processor-segment-sizes. The same, but a cell of all ones is no size: its place is kept, and YEBKUZAN_NO_SIZE stands there in the
+ * table. 19 is against the last size before, such places passed over; 11 after all cells where none of them is a size.
+ */
 YebkuzanSizes yebkuzan_segment_sizes(const uint8_t *value, size_t value_length);
 
 /*

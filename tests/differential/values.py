@@ -1,14 +1,20 @@
 """Property blocks, values of tables and unit texts by chance, for the differential test."""
 
 from vectors.blocks import NOP, prop
-from vectors.properties import HEX_DIGITS, attributes_random, cells, mutated, segments_random, sizes_random
+from vectors.properties import GAP, HEX_DIGITS, attributes_random, cells, gaps_random, mutated, segments_random, sizes_random
 
 ALL_ONES = 2**32 - 1
 
 
 def sizes(kind, chance, many):
-    """As the stored vectors have them; sixteen and more cells; any bytes."""
+    """As the stored vectors have them; cells of all ones among ascending sizes, and among few sizes in any order; sixteen and more cells;
+    any bytes."""
+    gaps = [value for _, value, _ in gaps_random(chance, many)]
     for place, (_, value, _) in enumerate(sizes_random(kind, chance, many)):
+        if place % 8 in (2, 3, 4):
+            value = gaps[place]
+        if place % 8 == 5:
+            value = cells(*[chance.choice((GAP, GAP, GAP, GAP - 1, 28, 40, 63, 64)) for _ in range(chance.between(1, 17))])
         if place % 8 == 6:
             value = cells(*range(chance.between(14, 19))) + chance.bytes(chance.choice((0, 0, 1)))
         if place % 8 == 7:

@@ -23,6 +23,7 @@ LIMITS = [
     ("tables", "TABLE_WORDS"),
     ("sizes", "MOST_SIZES"),
     ("sizes", "LARGEST_EXPONENT"),
+    ("sizes", "NO_SIZE"),
     ("segments", "MOST_DESCRIPTORS"),
     ("segments", "MOST_PAGES"),
     ("attributes", "MOST_BYTES"),

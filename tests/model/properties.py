@@ -25,6 +25,7 @@ MOST_DESCRIPTORS = 8
 MOST_PAIRS = 8
 MOST_BYTES = 254
 LARGEST_EXPONENT = 63
+NO_SIZE = 2**32 - 1
 
 
 def with_zeros(values, width):
@@ -40,36 +41,47 @@ def whole_cells(value):
 # Plain cells
 
 
-def sizes_refusal(value):
-    """Length first, then the maximum, then cell by cell the range before the order."""
+def is_gap(cell):
+    """Whether a cell of segment sizes says that there is no size in its place (document 02, A1)."""
+    return cell == NO_SIZE
+
+
+def exponents_refusal(exponents):
+    """One by one, the range before the order; then whether there are any."""
+    for place, exponent in enumerate(exponents):
+        if exponent > LARGEST_EXPONENT:
+            return OUT_OF_RANGE
+        if place and not exponents[place - 1] < exponent:
+            return NOT_ASCENDING
+    return ACCEPTED if exponents else WRONG_LENGTH
+
+
+def sizes_refusal(value, exponents):
+    """Length first, then the maximum, then the exponents among the cells."""
     if not value or len(value) % 4:
         return WRONG_LENGTH
-    cells = whole_cells(value)
-    if len(cells) > MOST_SIZES:
+    if len(value) > 4 * MOST_SIZES:
         return TOO_MANY
-    for place, cell in enumerate(cells):
-        if cell > LARGEST_EXPONENT:
-            return OUT_OF_RANGE
-        if place and not cells[place - 1] < cell:
-            return NOT_ASCENDING
-    return ACCEPTED
+    return exponents_refusal(exponents)
 
 
-def sizes(value):
-    """The count of exponents, and sixteen exponents."""
-    number = sizes_refusal(value)
-    exponents = [] if number else whole_cells(value)
-    return number, [len(exponents)] + with_zeros(exponents, MOST_SIZES)
+def size_table(number, cells):
+    """The count of cells, and sixteen cells."""
+    places = [] if number else cells
+    return number, [len(places)] + with_zeros(places, MOST_SIZES)
 
 
 def page_sizes(value):
-    """`ibm,processor-page-sizes`."""
-    return sizes(value)
+    """`ibm,processor-page-sizes`: each cell is an exponent."""
+    cells = whole_cells(value)
+    return size_table(sizes_refusal(value, cells), cells)
 
 
 def segment_sizes(value):
-    """`ibm,processor-segment-sizes`."""
-    return sizes(value)
+    """`ibm,processor-segment-sizes`: each cell is an exponent or a gap."""
+    cells = whole_cells(value)
+    exponents = [cell for cell in cells if not is_gap(cell)]
+    return size_table(sizes_refusal(value, exponents), cells)
 
 
 def bus_frequency(value):

@@ -4,7 +4,8 @@
 |------|----------------------------------------------------------------------|------------------------------------|
 | u    | a unit text to read                                                  | the number |
 | w    | a unit number (four bytes, big-endian), then the lent buffer's bytes | the length, and the buffer's bytes afterwards |
-| p, s | page sizes, segment sizes                                            | count, 16 exponents |
+| p    | page sizes                                                           | count, 16 exponents |
+| s    | segment sizes                                                        | count, 16 exponents, `none` for one that is no size |
 | g    | segment page sizes                                                   | count, then 8 times base, encoding, count and 8 pairs of exponent and encoding |
 | a    | `ibm,pa-features`                                                    | 6 raw bytes, data streams, vector, vector scalar, vector crypto, transactional memory, coprocessor word |
 | i    | `ibm,pi-features`                                                    | count, 254 bytes |
@@ -21,6 +22,9 @@ from vectors.chance import Chance
 SEED = 20240101
 
 HEX_DIGITS = b"0123456789abcdefABCDEF"
+
+# A cell of segment sizes that is none.
+GAP = 0xFFFFFFFF
 
 ANSWERS = {
     "u": model.read_unit,
@@ -206,7 +210,12 @@ def unit_writes(chance):
 
 def sizes_line(kind, exponents):
     """The line of a table of these exponents."""
-    return " ".join(map(str, [kind, 0, len(exponents), *exponents, *[0] * (16 - len(exponents))]))
+    return " ".join(map(str, [kind, 0, len(exponents), *shown(kind, exponents), *[0] * (16 - len(exponents))]))
+
+
+def shown(kind, values):
+    """What a line shows of the values: segment sizes have places without a size."""
+    return ["none" if kind == "s" and number == GAP else number for number in values]
 
 
 def sizes_refused(kind, number):
@@ -249,9 +258,7 @@ def sizes_edges(kind):
         [256],
         [0x0C000000],
         [0x80000000],
-        [0xFFFFFFFF],
         [63, 64],
-        [0, 0xFFFFFFFF],
         list(range(15)) + [64],
         # A cell that is too large, before one that does not ascend.
         [64, 64],
@@ -259,8 +266,6 @@ def sizes_edges(kind):
         [5, 64, 64],
         [5, 64, 3],
         [64] + list(range(15)),
-        # A real table, of POWER9 under OPAL: 28 and 40, and two cells of ones.
-        [28, 40, 0xFFFFFFFF, 0xFFFFFFFF],
     ):
         yield kind, cells(*exponents), sizes_refused(kind, 12)
     for exponents in (
@@ -295,6 +300,103 @@ def sizes_edges(kind):
         b"\0\0\x0c",
     ):
         yield kind, value, sizes_refused(kind, 11)
+
+
+def page_gaps():
+    """Of page sizes a cell of all ones is out of range."""
+    for exponents in ([GAP], [0, GAP], [28, 40, GAP, GAP], [GAP, 28], [28, GAP, 28], [GAP] * 16):
+        yield "p", cells(*exponents), sizes_refused("p", 12)
+    yield "p", cells(28, 28, GAP), sizes_refused("p", 19)
+    yield "p", cells(*[GAP] * 17), sizes_refused("p", 8)
+
+
+def segment_gaps():
+    """Of segment sizes it is a place without a size."""
+    for exponents in (
+        # Those of POWER8, POWER9 and POWER10 under OPAL, and of QEMU's pseries.
+        [28, 40, GAP, GAP],
+        [GAP, 28],
+        [28, GAP],
+        [28, GAP, 40],
+        [28, GAP, GAP, GAP, 40],
+        [GAP, GAP, 28, GAP, GAP, 40, GAP, GAP],
+        [GAP, 0],
+        [0, GAP],
+        [0, GAP, 1],
+        [62, GAP, 63],
+        [GAP, 63, GAP],
+        [28] + [GAP] * 15,
+        [GAP] * 15 + [28],
+        [GAP] * 7 + [28, 40] + [GAP] * 7,
+        [place if place % 2 else GAP for place in range(16)],
+        [GAP if place % 2 else place for place in range(16)],
+        list(range(15)) + [GAP],
+        [GAP] + list(range(15)),
+    ):
+        yield "s", cells(*exponents), sizes_line("s", exponents)
+    for exponents in (
+        # All ones but for a bit, and other cells that are large.
+        [0xFFFFFFFE],
+        [0x7FFFFFFF],
+        [28, 0xFFFFFFFE],
+        [28, 0xFFFFFFFF ^ 0x00010000],
+        [GAP, 0xFFFFFFFE],
+        [0xFFFFFFFE, GAP],
+        [28, 0xFFFF],
+        [0xFF],
+        # Gaps beside one size that is out of range.
+        [64, GAP],
+        [GAP, 64],
+        [GAP, 64, GAP],
+        [GAP] * 15 + [64],
+        [64] + [GAP] * 15,
+        [28, GAP, 64],
+        # Before one that does not ascend.
+        [28, GAP, 64, GAP, 28],
+        [64, GAP, 63],
+    ):
+        yield "s", cells(*exponents), sizes_refused("s", 12)
+    for exponents in (
+        # Against the last size before, however many gaps stand between.
+        [28, GAP, 28],
+        [28, GAP, GAP, 28],
+        [28] + [GAP] * 14 + [28],
+        [40, GAP, 28],
+        [63, GAP, 0],
+        [0, GAP, 0],
+        [GAP, 28, 28],
+        [28, 28, GAP],
+        [GAP, 28, 28, GAP],
+        [28, GAP, 40, GAP, 28],
+        [28, GAP, 40, GAP, 40],
+        # Before one that is out of range.
+        [28, GAP, 28, 64],
+        [28, GAP, 28, GAP, 0xFFFFFFFE],
+    ):
+        yield "s", cells(*exponents), sizes_refused("s", 19)
+    # Gaps alone, and cut cells; gaps count among the sixteen.
+    for many in (1, 2, 15, 16):
+        yield "s", cells(*[GAP] * many), sizes_refused("s", 11)
+    for value in (b"\xff", b"\xff" * 5, b"\xff" * 67, b"\xff" * 71, cells(28, GAP) + b"\xff\xff"):
+        yield "s", value, sizes_refused("s", 11)
+    for exponents in ([GAP] * 17, [28] + [GAP] * 16, [GAP] * 16 + [64], [GAP] * 8 + [28, 28] + [GAP] * 8, [GAP] * 64):
+        yield "s", cells(*exponents), sizes_refused("s", 8)
+
+
+def gaps_random(chance, many):
+    """Ascending sizes with gaps anywhere among them, up to seventeen cells; then out of order, or with bytes changed."""
+    for place in range(many):
+        exponents = sorted(chance.shuffled(range(64))[: chance.between(0, 6)])
+        row = list(exponents)
+        for _ in range(chance.between(0, 17 - len(row))):
+            row.insert(chance.between(0, len(row)), GAP)
+        if place % 4 < 2:
+            good = exponents and len(row) <= 16
+            yield "s", cells(*row), sizes_line("s", row) if good else None
+        elif place % 4 == 2:
+            yield "s", cells(*chance.shuffled(row)), None
+        else:
+            yield "s", mutated(chance, cells(*row)), None
 
 
 def sizes_random(kind, chance, many):
@@ -664,6 +766,9 @@ def cases():
     yield from attributes_lengths("i", (1, 2, 3, 4, 6, 7, 8, 16, 23, 24, 25, 30, 100, 128, 253, 254))
     yield from attributes_random("i", chance, 12)
     yield from frequencies()
+    yield from page_gaps()
+    yield from segment_gaps()
+    yield from gaps_random(chance, 32)
 
 
 def vectors():
@@ -671,7 +776,7 @@ def vectors():
     seen = set()
     for kind, data, expected in cases():
         number, values = ANSWERS[kind](data)
-        line = " ".join(map(str, [kind, number, *values]))
+        line = " ".join(map(str, [kind, number, *shown(kind, values)]))
         if expected is not None and expected not in (line, number):
             raise ValueError("the model answers %r to %s %s, not %r" % (line, kind, data.hex(), expected))
         if (kind, data) not in seen:

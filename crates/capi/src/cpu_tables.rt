@@ -5,7 +5,7 @@ use answers::YebkuzanPiFeatures;
 use answers::YebkuzanSegments;
 use answers::YebkuzanSizes;
 ghost use mathlib.Core.Path.{_≡_};
-ghost use Rattle.sizes.specs.Sizes.{sizes as sizesOf};
+ghost use Rattle.sizes.specs.Sizes.{pageSizes, segmentSizes};
 ghost use Rattle.segments.specs.Segments.{segmentPages};
 ghost use Rattle.attributes.specs.Attributes.{paFeatures, piFeatures, busFrequency};
 ghost use Rattle.answers.specs.Answers.{sizesOutcomeC, segmentsOutcomeC, paOutcomeC, piOutcomeC, busOutcomeC};
@@ -13,15 +13,15 @@ ghost use Rattle.answers.specs.Answers.{sizesOutcomeC, segmentsOutcomeC, paOutc
 // The value of `ibm,processor-page-sizes`: 11, 8, then cell by cell 12, 19.
 #[no_mangle]
 pub extern "C" fn yebkuzan_page_sizes(value: &[u8]) -> YebkuzanSizes
-    ensures { λ t. ⌜ sizesOutcomeC t ≡ sizesOf (now (value .entry)) ⌝ }
+    ensures { λ t. ⌜ sizesOutcomeC t ≡ pageSizes (now (value .entry)) ⌝ }
 {
     answers::of_sizes(sizes::page_sizes(value))
 }
 
-// The value of `ibm,processor-segment-sizes`: 11, 8, then cell by cell 12, 19.
+// The value of `ibm,processor-segment-sizes`: 11, 8, then cell by cell 12, 19; 11 where no cell is a size.
 #[no_mangle]
 pub extern "C" fn yebkuzan_segment_sizes(value: &[u8]) -> YebkuzanSizes
-    ensures { λ t. ⌜ sizesOutcomeC t ≡ sizesOf (now (value .entry)) ⌝ }
+    ensures { λ t. ⌜ sizesOutcomeC t ≡ segmentSizes (now (value .entry)) ⌝ }
 {
     answers::of_sizes(sizes::segment_sizes(value))
 }

@@ -9,7 +9,7 @@ use Rattle.refusal.specs.Checks.{check, firstFault}
 use Rattle.cells.specs.Buffer.{written}
 use Rattle.unit.specs.Hex.{HexNumber, someNumber, noNumber, hexNumber, hexChecks, readNumber, readHex, hexText, digitCount, fits, writeHex, afterHex}
 use Rattle.unit.specs.Unit.{readUnit, writeUnit, afterUnit}
-use Rattle.sizes.specs.Sizes.{sizeChecks, noSizes, sizeTable, sizes}
+use Rattle.sizes.specs.Sizes.{sizeOnly, sizeOrNone, sizeChecks, noSizes, sizes}
 use Rattle.segments.specs.Segments.{segmentChecks, tableOf, segmentPages}
 use Rattle.attributes.specs.Attributes.{attributeChecks, noAttributes, paFeatures, piTable, piFeatures, busFrequency}
 use Rattle.header.specs.Header.{noBlocks, header}
@@ -117,7 +117,8 @@ of-slots slots counts n set i buffer =
 of-value : (value : List ℕ) → Demand1Value value
 unfolding sizes segmentPages tableOf paFeatures piFeatures piTable busFrequency
 of-value value = record {
-  sizesEnds = checks-end sizeNumbers noSizes (sizeTable value) (sizeChecks value) (sizes-numbered value);
+  pagesEnds = checks-end sizeNumbers noSizes _ (sizeChecks sizeOnly value) (sizes-numbered sizeOnly value);
+  sizesOfSegmentsEnds = checks-end sizeNumbers noSizes _ (sizeChecks sizeOrNone value) (sizes-numbered sizeOrNone value);
   segmentsEnds = checks-end segmentNumbers zeroSegments _ (segmentChecks value) (segments-numbered value);
   paEnds = checks-end attributeNumbers noAttributes _ (attributeChecks value) (attributes-numbered value);
   piEnds = checks-end attributeNumbers zeroBytes _ (attributeChecks value) (attributes-numbered value);

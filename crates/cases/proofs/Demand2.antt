@@ -8,10 +8,11 @@ use lib.ListN.{length}
 use Rattle.refusal.specs.Refusal.{Outcome, answer, refuse}
 use Rattle.refusal.specs.Checks.{check}
 use Rattle.refusal.proofs.Checks.{answered, passes, outcome-number, eq→eqb}
-use Rattle.cells.specs.Cells.{wordAt}
+use Rattle.cells.specs.Cells.{wordAt, cellsIn}
 use Rattle.unit.proofs.Demand2.{number-text-number, eight-bytes, text-number-text, one-shortest}
-use Rattle.sizes.specs.declared.SizeTable.{SizeTable}
-use Rattle.sizes.specs.Sizes.{noSizes, sizeChecks, sizeTable, sizes}
+use Rattle.sizes.specs.declared.Size.{Size}
+use Rattle.sizes.specs.Sizes.{sizeOnly, sizeOrNone, noSizes, sizeChecks, sizeTable, sizes}
+use Rattle.sizes.proofs.Accepted.{sizes-accepts, sizes-read, sizes-once, sizes-plain, without-gaps, places-read}
 use Rattle.segments.proofs.Accepted.{segments-accepts, segments-read, segments-once}
 use Rattle.attributes.specs.declared.PaTable.{PaTable}
 use Rattle.attributes.specs.declared.PiTable.{PiTable}
@@ -26,9 +27,9 @@ use Rattle.reading.proofs.Faults.{read-ends}
 use Rattle.reading.proofs.Dependencies.{read-holds, read-zeroed, read-dependencies}
 use Rattle.reading.proofs.TotalSize.{same-tree-read}
 use Rattle.listing.proofs.TotalSize.{same-tree-listing, first-listing}
-use Rattle.cases.specs.Demand2.{Demand2Tree, Demand2Lookup, Demand2Value, Demand2Unit, Demand2}
+use Rattle.cases.specs.Demand2.{Demand2Tree, Demand2Lookup, Demand2Sizes, Demand2Value, Demand2Unit, Demand2}
 use Rattle.cases.proofs.EndLaws.{checks-answer}
-use Rattle.cases.proofs.TableNumbers.{sizeNumbers, sizes-numbered, attributeNumbers, attributes-numbered}
+use Rattle.cases.proofs.TableNumbers.{attributeNumbers, attributes-numbered}
 
 of-tree : (tree : List ℕ) → Demand2Tree readRecord tree
 of-tree tree = record {
@@ -49,9 +50,14 @@ of-lookup : (cpu parent strings name : List ℕ) → Demand2Lookup cpu parent st
 of-lookup cpu parent strings name = record { looksUp = looks-up cpu parent strings name }
 
 module _ (value : List ℕ) where
-  sizes-read : sizes value .number ≡ 0 → sizes value .value ≡ sizeTable value
+  of-sizes : (rule : ℕ → Size) → Demand2Sizes rule (sizes rule) value
   unfolding sizes
-  sizes-read z = ap (λ (o : Outcome SizeTable). o .value) (checks-answer sizeNumbers noSizes (sizeTable value) refl (sizeChecks value) (sizes-numbered value) z)
+  of-sizes rule = record {
+    accepted = sizes-accepts rule value;
+    answered = λ cells. sizes-read rule cells value;
+    once = λ a b. sizes-once rule a b value;
+    numbered = outcome-number noSizes (sizeTable (cellsIn value)) (sizeChecks rule value);
+  }
 
   pa-read : paFeatures value .number ≡ 0 → paFeatures value .value ≡ paTable (attributeBytes value)
   unfolding paFeatures
@@ -74,10 +80,13 @@ module _ (value : List ℕ) where
   bus-length z = eqb→eq (length value) 8 (answered 0 (wordAt value 0) (check (eqb (length value) 8) 11 ∷ []) (omega arith, tt) z .0)
 
   of-value : Demand2Value value
-  unfolding sizes paFeatures piFeatures
+  unfolding paFeatures piFeatures
   of-value = record {
-    sizesNumber = outcome-number noSizes (sizeTable value) (sizeChecks value);
-    sizesRead = sizes-read;
+    pages = of-sizes sizeOnly;
+    pagesPlain = sizes-plain sizeOnly value refl;
+    sizesOfSegments = of-sizes sizeOrNone;
+    places = λ cells. places-read cells value;
+    withoutGaps = without-gaps value;
     segmentsAccepted = segments-accepts value;
     segmentsRead = λ segments. segments-read segments value;
     segmentsOnce = λ a b. segments-once a b value;

@@ -1,13 +1,19 @@
 -- Programs that do not meet the demands, whatever else they do (document 01, "Promises about the outcome": "Try these against the promises").
 -- Assumes nothing.
 use Prim.Native.Nat.{ℕ, _≤_, _<_}
-use mathlib.Core.Path.{_≡_, sym, ap, _∙_}
+use mathlib.Core.Path.{_≡_, refl, sym, ap, subst, _∙_}
 use mathlib.Core.Bool.{true, false, true≢false}
-use mathlib.Core.List.{List}
+use mathlib.Core.List.{List, [], _∷_, flatMap}
 use native.Mathlib.Omega.{arith}
 use lib.Dec.{eqb}
 use lib.ListN.{length, replicate, length-replicate}
-use Rattle.refusal.specs.Refusal.{Outcome, Placed}
+use Rattle.refusal.specs.Refusal.{Outcome, Placed, answer}
+use Rattle.cells.specs.Cells.{cellsIn}
+use Rattle.cells.specs.Bytes.{IsCell, cellBytes, Each}
+use Rattle.cells.proofs.CellRows.{cells-back, cells-in-bytes}
+use Rattle.sizes.specs.declared.SizeTable.{SizeTable}
+use Rattle.sizes.specs.Sizes.{noSize, sizeOrNone, sizeTable}
+use Rattle.sizes.specs.SizeCells.{SizeCells}
 use Rattle.positions.specs.Below.{count}
 use Rattle.positions.specs.Bits.{bit}
 use Rattle.positions.specs.Sets.{has}
@@ -25,7 +31,7 @@ use Rattle.reading.specs.Example.{exampleTree}
 use Rattle.reading.proofs.Example.{example-read}
 use Rattle.reading.proofs.Accepts.{read-accepts}
 use Rattle.cases.specs.Cases.{cycle, noGrants}
-use Rattle.cases.specs.Demand2.{Demand2Tree}
+use Rattle.cases.specs.Demand2.{Demand2Tree, Demand2Sizes}
 use Rattle.cases.specs.Demand3.{IsLeftOut, Demand3Calls, Demand3, Resolver}
 use Rattle.cases.proofs.Cycles.{cycle-formed, blocked-formed, cycle-on, blocked-off}
 
@@ -38,6 +44,34 @@ module _ (read : List ℕ → Placed Record) (d : (tree : List ℕ) → Demand2T
   -- one whose answer changes with a byte behind the total size
   pub reads-behind : (s t : List ℕ) → SameTree s t → (read s ≡ read t → ⊥) → ⊥
   reads-behind s t same f = f (d s .behind t same)
+
+-- readers of segment sizes
+module _ (read : List ℕ → Outcome SizeTable) (d : (value : List ℕ) → Demand2Sizes sizeOrNone read value) where
+  -- one that refuses those of a POWER9, that drops their gaps, or that answers anything else
+  pub real-gaps : (read (flatMap cellBytes (28 ∷ 40 ∷ noSize ∷ noSize ∷ [])) ≡ answer (sizeTable (28 ∷ 40 ∷ noSize ∷ noSize ∷ [])) → ⊥) → ⊥
+  unfolding sizeOrNone
+  real-gaps f =
+      f (d (flatMap cellBytes (28 ∷ 40 ∷ noSize ∷ noSize ∷ [])) .answered (28 ∷ 40 ∷ noSize ∷ noSize ∷ []) record {
+        few = omega arith;
+        sized = record { some = omega arith; low = (omega arith, (omega arith, tt)); ascending = (omega arith, tt) };
+        numbers = (omega arith, (omega arith, (omega arith, (omega arith, tt))));
+        bytes = refl;
+      })
+
+  -- what it accepts of the bytes of cells has these cells
+  those : (cells : List ℕ) → Each IsCell cells → read (flatMap cellBytes cells) .number ≡ 0 → SizeCells sizeOrNone cells (flatMap cellBytes cells)
+  those cells numbers z =
+      let g = d (flatMap cellBytes cells) .accepted (cells-in-bytes cells numbers) .0 z in
+      subst (λ (l : List ℕ). SizeCells sizeOrNone l (flatMap cellBytes cells)) (sym (cells-back (g .0)) ∙ ap cellsIn (sym (g .1 .bytes)) ∙ cells-back cells) (g .1)
+
+  -- one that forgets the last size where there is a gap, and one that accepts gaps only
+  pub gap-forgets : read (flatMap cellBytes (28 ∷ noSize ∷ 28 ∷ [])) .number ≡ 0 → ⊥
+  unfolding sizeOrNone
+  gap-forgets z = absurd (omega (arith, those (28 ∷ noSize ∷ 28 ∷ []) (omega arith, (omega arith, (omega arith, tt))) z .sized .ascending .0))
+
+  pub gaps-only : read (flatMap cellBytes (noSize ∷ noSize ∷ [])) .number ≡ 0 → ⊥
+  unfolding sizeOrNone
+  gaps-only z = absurd (omega (arith, those (noSize ∷ noSize ∷ []) (omega arith, (omega arith, tt)) z .sized .some))
 
 -- resolvers
 module _ (c : Resolver) (d : Demand3 c) where

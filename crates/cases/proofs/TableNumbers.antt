@@ -2,10 +2,13 @@
 use Prim.Native.Nat.{ℕ, zero, suc}
 use mathlib.Core.Path.{_≡_, refl}
 use mathlib.Core.Bool.{true}
-use mathlib.Core.List.{List, [], _∷_, _++_}
+use mathlib.Core.List.{List, [], _∷_, _++_, map}
 use lib.Dec.{ltb}
 use lib.ListN.{length}
-use Rattle.sizes.specs.Sizes.{cellCount, cellChecks, sizeChecks}
+use Rattle.cells.specs.Cells.{cellsIn}
+use Rattle.sizes.specs.declared.Size.{Size}
+use Rattle.sizes.specs.declared.Size.the-variants.{Exponent, None}
+use Rattle.sizes.specs.Sizes.{cellChecks, plainChecks, sizeChecks}
 use Rattle.segments.specs.Segments as segments
 use Rattle.attributes.specs.Attributes as attributes
 use Rattle.cases.proofs.EndLaws.{allOneOf, both-one-of, where-one-of}
@@ -14,14 +17,15 @@ use Rattle.cases.proofs.EndLaws.{allOneOf, both-one-of, where-one-of}
 abbrev pub sizeNumbers : List ℕ
 sizeNumbers = 8 ∷ 11 ∷ 12 ∷ 19 ∷ []
 
-cells-numbered : (n : ℕ) (value : List ℕ) (i : ℕ) → allOneOf sizeNumbers (cellChecks n value i) ≡ true
+cells-numbered : (last : Size) (places : List Size) → allOneOf sizeNumbers (cellChecks last places) ≡ true
 unfolding cellChecks
-cells-numbered zero value i = refl
-cells-numbered (suc n) value i = cells-numbered n value (suc i)
+cells-numbered last [] = refl
+cells-numbered last (None ∷ places) = cells-numbered last places
+cells-numbered last (Exponent e ∷ places) = cells-numbered (Exponent e) places
 
-pub sizes-numbered : (value : List ℕ) → allOneOf sizeNumbers (sizeChecks value) ≡ true
-unfolding sizeChecks
-sizes-numbered value = cells-numbered (cellCount value) value 0
+pub sizes-numbered : (rule : ℕ → Size) (value : List ℕ) → allOneOf sizeNumbers (sizeChecks rule value) ≡ true
+unfolding sizeChecks plainChecks
+sizes-numbered rule value = both-one-of sizeNumbers (plainChecks rule value) _ (cells-numbered None (map rule (cellsIn value))) refl
 
 -- segment page sizes
 abbrev pub segmentNumbers : List ℕ

@@ -8,7 +8,7 @@ use Rattle.characters.specs.Characters.{bytes}
 use Rattle.refusal.specs.Refusal.{Outcome, answer, refuse}
 use Rattle.cells.specs.Bytes.{cellBytes}
 use Rattle.unit.specs.Unit.{readUnit, writeUnit, afterUnit}
-use Rattle.sizes.specs.Sizes.{sizes, noSizes}
+use Rattle.sizes.specs.Sizes.{pageSizes as readPageSizes, noSizes}
 use Rattle.sizes.specs.declared.SizeTable.{SizeTable}
 use Rattle.positions.specs.Sets.{setOf, noMembers, firstPositions}
 use Rattle.record.specs.declared.Feature.{Feature}
@@ -65,7 +65,7 @@ abbrev pub CaseHolds : Case → Type 0
 CaseHolds (writesUnit n t) =
     (writeUnit n (length (bytes t)) ≡ answer (length (bytes t))) × (afterUnit n (replicate (length (bytes t)) 0) ≡ bytes t)
 CaseHolds (readsUnit t o) = readUnit (bytes t) ≡ o
-CaseHolds (pageSizes es o) = sizes (flatMap cellBytes es) ≡ o
+CaseHolds (pageSizes es o) = readPageSizes (flatMap cellBytes es) ≡ o
 CaseHolds (enables r level g m) = (enable r level g ≡ answer m) × (enableByTable r (reachOf r .value) level g ≡ answer m)
 CaseHolds (reports r level g i told) =
     (chain r level g i (length told) ≡ answer (length told)) × (afterChain r level g i (replicate (length told) 255) ≡ told)

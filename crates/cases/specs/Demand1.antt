@@ -13,7 +13,7 @@ use Rattle.tokens.specs.Tokens.{tokens}
 use Rattle.properties.specs.Properties.{nameAt, givenBefore, nameFault, readProperties}
 use Rattle.unit.specs.Hex.{readHex, writeHex, afterHex}
 use Rattle.unit.specs.Unit.{readUnit, writeUnit, afterUnit}
-use Rattle.sizes.specs.Sizes.{noSizes, sizes}
+use Rattle.sizes.specs.Sizes.{noSizes, pageSizes, segmentSizes}
 use Rattle.segments.specs.declared.SegmentTable.{SegmentTable}
 use Rattle.segments.specs.Segments.{mostDescriptors, noDescriptor, segmentPages}
 use Rattle.attributes.specs.declared.PiTable.{PiTable}
@@ -166,7 +166,8 @@ pub record Demand1Lookup (cpu parent strings name : List ℕ) : Type 0 where
 -- `page_sizes` and `segment_sizes`, `segment_page_sizes`, `pa_features`, `pi_features` and `bus_frequency`, of a value
 pub record Demand1Value (value : List ℕ) : Type 0 where
   -- "length first (11), maxima (8), then cell by cell, 12 before 19"
-  pub sizesEnds : Ends (8 ∷ 11 ∷ 12 ∷ 19 ∷ []) noSizes (sizes value)
+  pub pagesEnds : Ends (8 ∷ 11 ∷ 12 ∷ 19 ∷ []) noSizes (pageSizes value)
+  pub sizesOfSegmentsEnds : Ends (8 ∷ 11 ∷ 12 ∷ 19 ∷ []) noSizes (segmentSizes value)
   -- "a ninth of sizes is 8, a header cut short 11, a count of 0 .. is 12"
   pub segmentsEnds : Ends (8 ∷ 11 ∷ 12 ∷ []) zeroSegments (segmentPages value)
   -- "One of type 0 is used, none is 10, two are 9"; "a header cut short 11, .. a length byte of 0 or 255 is 12"

@@ -5,13 +5,16 @@ use mathlib.Core.Path.{_≡_}
 use mathlib.Core.List.{List, _++_, map}
 use mathlib.Core.Logic.{_↔_}
 use lib.ListN.{length, take}
-use Rattle.refusal.specs.Refusal.{Placed, answer}
-use Rattle.refusal.specs.Checks.{faultOf}
-use Rattle.cells.specs.Cells.{wordAt}
+use Rattle.refusal.specs.Refusal.{Outcome, Placed, answer, refuse}
+use Rattle.refusal.specs.Checks.{firstFault, faultOf}
+use Rattle.cells.specs.Cells.{wordAt, cellsIn}
 use Rattle.cells.specs.Bytes.{Each, IsByte}
 use Rattle.unit.specs.Unit.{readUnit, writeUnit, textWritten}
 use Rattle.unit.specs.Shortest.{Shortest}
-use Rattle.sizes.specs.Sizes.{sizeChecks, sizeTable, sizes}
+use Rattle.sizes.specs.declared.Size.{Size}
+use Rattle.sizes.specs.declared.SizeTable.{SizeTable}
+use Rattle.sizes.specs.Sizes.{noSize, sizeOnly, sizeOrNone, plainChecks, sizeChecks, sizeTable, noSizes, pageSizes, segmentSizes}
+use Rattle.sizes.specs.SizeCells.{SizeCells, placesIn}
 use Rattle.segments.specs.Segments.{tableOf, segmentPages}
 use Rattle.segments.specs.Encoded.{Segment, descriptorOf, Encodes}
 use Rattle.attributes.specs.Attributes.{attributeChecks, attributeBytes, paTable, paFeatures, piTable, piFeatures, busFrequency}
@@ -56,11 +59,23 @@ pub record Demand2Tree (read : List ℕ → Placed Record) (tree : List ℕ) : T
 pub record Demand2Lookup (cpu parent strings name : List ℕ) : Type 0 where
   pub looksUp : LooksUp cpu parent strings name (lookup cpu parent strings name) (reason cpu parent strings name)
 
+-- sizes in plain cells, by how one cell reads: accepted exactly when the bytes are those of 1 to 16 cells with sizes within bounds, strictly
+-- ascending, and these are then answered, each in its place; else the first check that does not hold refuses
+pub record Demand2Sizes (rule : ℕ → Size) (read : List ℕ → Outcome SizeTable) (value : List ℕ) : Type 0 where
+  pub accepted : Each IsByte value → read value .number ≡ 0 ↔ ((cells : List ℕ) × SizeCells rule cells value)
+  pub answered : (cells : List ℕ) → SizeCells rule cells value → read value ≡ answer (sizeTable cells)
+  pub once : (a b : List ℕ) → SizeCells rule a value → SizeCells rule b value → a ≡ b
+  pub numbered : read value .number ≡ faultOf (sizeChecks rule value)
+
 -- "the page-size and attribute tables"
 pub record Demand2Value (value : List ℕ) : Type 0 where
-  -- `ibm,processor-page-sizes`, `ibm,processor-segment-sizes`: the first check that does not hold refuses, else the exponents are answered
-  pub sizesNumber : sizes value .number ≡ faultOf (sizeChecks value)
-  pub sizesRead : sizes value .number ≡ 0 → sizes value .value ≡ sizeTable value
+  -- `ibm,processor-page-sizes`: each cell is a size, and document 01's checks alone decide
+  pub pages : Demand2Sizes sizeOnly pageSizes value
+  pub pagesPlain : pageSizes value ≡ firstFault (refuse noSizes) (plainChecks sizeOnly value) (answer (sizeTable (cellsIn value)))
+  -- `ibm,processor-segment-sizes`: a cell of all ones is no size, and "its place is kept"; without such a cell the answer is that of before
+  pub sizesOfSegments : Demand2Sizes sizeOrNone segmentSizes value
+  pub places : (cells : List ℕ) → SizeCells sizeOrNone cells value → placesIn (segmentSizes value .value) ≡ map sizeOrNone cells
+  pub withoutGaps : Each (λ n. n ≡ noSize → ⊥) (cellsIn value) → segmentSizes value ≡ pageSizes value
   -- `ibm,segment-page-sizes`: accepted exactly when the bytes are those of 1 to 8 descriptors within bounds, and these are then answered
   pub segmentsAccepted : Each IsByte value → segmentPages value .number ≡ 0 ↔ ((segments : List Segment) × Encodes segments value)
   pub segmentsRead : (segments : List Segment) → Encodes segments value → segmentPages value ≡ answer (tableOf (map descriptorOf segments))

@@ -4,3 +4,4 @@ pub mod Rows
 pub mod Lists
 pub mod Standing
 pub mod Bytes
+pub mod CellRows

@@ -6,8 +6,7 @@ use mathlib.Core.List.{List, [], _∷_}
 use lib.Dec.{eqb}
 use lib.ListN.{length}
 use Rattle.characters.specs.Characters.{bytes}
-use Rattle.cells.specs.Cells.{cellAt}
-use Rattle.cells.specs.Rows.{each}
+use Rattle.cells.specs.Cells.{cellAt, cellsIn}
 use Rattle.strings.specs.Strings.{ended, isString}
 use Rattle.names.specs.Names.{sameText}
 use Rattle.positions.specs.Bits.{bit}
@@ -69,4 +68,4 @@ lowBit v = bit (number v) 0
 -- its cells
 abbrev pub cellsOf : Value → List ℕ
 cellsOf missing = []
-cellsOf (value bs) = each (length bs / 4) (λ (j : ℕ). cellAt bs (4 * j))
+cellsOf (value bs) = cellsIn bs

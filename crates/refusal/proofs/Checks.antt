@@ -109,6 +109,12 @@ module _ {F A : Type 0} (refuse : F → A) where
       go true h = h refl
       go false h = refl
 
+  -- a check that holds where all before it hold changes nothing
+  pub follows : (cs : List (Check F)) (c : Check F) (a : A) → (Passes cs → T (c .holds)) → firstFault refuse (cs ++ (c ∷ [])) a ≡ firstFault refuse cs a
+  follows [] c a h = holds-on c [] a (h tt)
+  follows (d ∷ ds) c a h =
+      check-same (d .holds) (d .holds) (d .fault) (ds ++ (c ∷ [])) ds a a refl (λ e. follows ds c a (λ p. h (rw e tt, p)))
+
 -- every fault is a number of the table, and not 0
 abbrev pub Numbered : List (Check ℕ) → Type 0
 Numbered [] = Unit

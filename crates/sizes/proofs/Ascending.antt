@@ -1,95 +1,160 @@
--- Laws of reading ascending sizes, cell by cell: what is left decides the whole. Assumes nothing.
+-- Laws of reading sizes by a rule, cell by cell: what is left decides the whole. Assumes nothing.
 use mathlib.Core.Path.{_≡_, refl, sym, ap, _∙_}
 use mathlib.Core.Bool.{not}
-use mathlib.Core.List.{List}
-use Prim.Native.Nat.{ℕ, suc, zero, _+_, _-_, _%_, _<_, _≤_}
+use mathlib.Core.List.{List, [], _∷_, _++_, map}
+use Prim.Native.Nat.{ℕ, suc, _+_, _*_, _/_, _%_, _<_, _≤_}
+use native.Mathlib.Decide.{decLt}
 use native.Mathlib.Omega.{arith}
 use native.Mathlib.Numerals.{add-one}
-use lib.Dec.{T}
-use lib.ListN.{length, set, replicate}
+use lib.Dec.{T, ltb}
+use lib.ListN.{length, getD, set, take, drop, replicate}
+use lib.Seq.{drop-cons, drop-length, take-length}
 use Rattle.refusal.specs.Refusal.{Outcome, answer, refuse}
-use Rattle.refusal.specs.Checks.{firstFault}
-use Rattle.refusal.proofs.Checks.{holds-on, stops, tests}
-use Rattle.cells.specs.Rows.{each, padded}
-use Rattle.sizes.specs.Sizes.{cell, cellCount, ascends, cellChecks, sizeChecks, noSizes, sizeTable, sizes, mostSizes}
+use Rattle.refusal.specs.Checks.{Check, check, firstFault}
+use Rattle.refusal.proofs.Checks.{holds-on, stops, passes, tests}
+use Rattle.cells.specs.Cells.{cellAt, cellsIn}
+use Rattle.cells.specs.Rows.{padded}
+use Rattle.cells.proofs.Rows.{row-at, padded-take}
+use Rattle.cells.proofs.CellRows.{count-cells}
+use Rattle.sizes.specs.Sizes.{exponentsIn, ascends, cellChecks, plainChecks, sizeChecks, noSizes, sizeTable, sizes, mostSizes, largestExponent}
+use Rattle.sizes.specs.declared.Size.{Size}
+use Rattle.sizes.specs.declared.Size.the-variants.{Exponent, None}
 use Rattle.sizes.specs.declared.SizeTable.{SizeTable}
-use Rattle.cells.proofs.Rows.{padded-each}
 
--- the least exponent that may stand at an index
-abbrev pub leastAt : List ℕ → ℕ → ℕ
-leastAt value zero = 0
-leastAt value (suc i) = cell value i + 1
+-- the least exponent that may follow the last size
+abbrev pub above : Size → ℕ
+above None = 0
+above (Exponent e) = e + 1
 
-not-less : (value : List ℕ) (i : ℕ) → leastAt value i ≤ cell value i → T (ascends value i)
+not-less : (last : Size) (e : ℕ) → above last ≤ e → T (ascends last e)
 unfolding ascends
-not-less value zero h = tt
-not-less value (suc i) h = omega (arith, tests)
+not-less None e h = tt
+not-less (Exponent l) e h = omega (arith, tests)
 
-less : (value : List ℕ) (i : ℕ) → cell value i < leastAt value i → T (not (ascends value i))
+less : (last : Size) (e : ℕ) → e < above last → T (not (ascends last e))
 unfolding ascends
-less value zero h = absurd (omega arith)
-less value (suc i) h = omega (arith, tests)
+less None e h = absurd (omega arith)
+less (Exponent l) e h = omega (arith, tests)
 
-abbrev whole : List ℕ → Outcome SizeTable
-whole value = answer (sizeTable value)
+module _ (rule : ℕ → Size) (value : List ℕ) where
+  abbrev whole : Outcome SizeTable
+  whole = answer (sizeTable (cellsIn value))
 
--- i of the n cells are read
-pub record Read (value : List ℕ) (n : ℕ) (exponents : List ℕ) (least i : ℕ) : Type 0 where
-  pub within : i ≤ n
-  pub few : n ≤ mostSizes
-  pub counted : n ≡ cellCount value
-  pub row : exponents ≡ padded mostSizes 0 (each i (cell value))
-  pub floor : least ≡ leastAt value i
-  pub rest : firstFault (refuse noSizes) (cellChecks (n - i) value i) (whole value) ≡ sizes value
+  -- the exponents from a place on
+  abbrev pub exponentsFrom : ℕ → List ℕ
+  exponentsFrom i = exponentsIn (map rule (drop i (cellsIn value)))
 
-module _ (value : List ℕ) where
-  pub read-none : 0 < length value → length value % 4 ≡ 0 → cellCount value ≤ mostSizes → Read value (cellCount value) (replicate mostSizes 0) 0 0
-  unfolding sizes sizeChecks
+  abbrev pub lastCheck : List (Check ℕ)
+  lastCheck = check (ltb 0 (length (exponentsFrom 0))) 11 ∷ []
+
+  -- i of the n cells are read
+  pub record Read (n : ℕ) (exponents : List ℕ) (least i : ℕ) : Type 0 where
+    pub within : i ≤ n
+    pub few : n ≤ mostSizes
+    pub counted : n ≡ length (cellsIn value)
+    pub row : exponents ≡ padded mostSizes 0 (take i (cellsIn value))
+    pub last : Size
+    pub floor : least ≡ above last
+    pub rest : firstFault (refuse noSizes) (cellChecks last (map rule (drop i (cellsIn value))) ++ lastCheck) whole ≡ sizes rule value
+    pub none : least ≡ 0 → length (exponentsFrom 0) ≡ length (exponentsFrom i)
+    pub some : 0 < least → 0 < length (exponentsFrom 0)
+
+  pub read-none : 0 < length value → length value % 4 ≡ 0 → length value / 4 ≤ mostSizes → Read (length value / 4) (replicate mostSizes 0) 0 0
+  unfolding sizes sizeChecks plainChecks
   read-none a b c = record {
     within = omega arith;
     few = c;
-    counted = refl;
+    counted = sym (count-cells value);
     row = refl;
+    last = None;
     floor = refl;
     rest =
-        let e : cellCount value - 0 ≡ cellCount value = omega arith in
-        rw e (sym (holds-on (refuse noSizes) _ _ (whole value) (omega (arith, tests))
-        ∙ holds-on (refuse noSizes) _ _ (whole value) (omega (arith, tests))
-        ∙ holds-on (refuse noSizes) _ _ (whole value) (omega (arith, tests))));
+        sym (holds-on (refuse noSizes) _ _ whole (omega (arith, tests))
+        ∙ holds-on (refuse noSizes) _ _ whole (omega (arith, tests))
+        ∙ holds-on (refuse noSizes) _ _ whole (omega (arith, tests, count-cells value)));
+    none = λ z. refl;
+    some = λ z. absurd (omega arith);
   }
 
-module _ {value : List ℕ} {n : ℕ} {exponents : List ℕ} {least i : ℕ} (g : Read value n exponents least i) (h : i < n) where
-  step : n - i ≡ suc (n - (i + 1))
-  step = omega arith
+module _ {rule : ℕ → Size} {value : List ℕ} {n : ℕ} {exponents : List ℕ} {least i : ℕ} (g : Read rule value n exponents least i) where
+  -- after the last cell
+  ended : n ≤ i → drop i (cellsIn value) ≡ []
+  ended h = let e : i ≡ length (cellsIn value) = omega (arith, g .within, g .counted) in rw e (drop-length (cellsIn value))
 
-  pub read-large : 63 < cell value i → refuse noSizes 12 ≡ sizes value
-  unfolding cellChecks
-  read-large l = sym (stops (refuse noSizes) 0 0 _ (whole value) (omega (arith, tests))) ∙ (rw step at (g .rest))
+  pub read-all : n ≤ i → 0 < least → answer (record { count = n; exponents = exponents }) ≡ sizes rule value
+  unfolding cellChecks firstFault sizeTable
+  read-all h l =
+      let e : i ≡ length (cellsIn value) = omega (arith, g .within, g .counted) in
+      let r = rw (ended h) at (g .rest) in
+      let m : 0 < length (exponentsFrom rule value 0) = g .some l in
+      let t = sym (passes (refuse noSizes) (lastCheck rule value) (whole rule value) (omega (arith, tests), tt)) ∙ r in
+      rw (g .row, e, g .counted, take-length (cellsIn value)) t
 
-  pub read-falls : cell value i ≤ 63 → cell value i < least → refuse noSizes 19 ≡ sizes value
-  unfolding cellChecks
-  read-falls l f = sym (stops (refuse noSizes) 0 1 _ (whole value) (omega (arith, tests), less value i (rw (g .floor) at f))) ∙ (rw step at (g .rest))
+  pub read-gaps : n ≤ i → least ≡ 0 → refuse noSizes 11 ≡ sizes rule value
+  unfolding cellChecks firstFault
+  read-gaps h l =
+      let r = rw (ended h) at (g .rest) in
+      let z : length (exponentsFrom rule value 0) ≡ 0 = rw (ended h) at (g .none l) in
+      sym (stops (refuse noSizes) 0 0 (lastCheck rule value) (whole rule value) (omega (arith, tests))) ∙ r
 
-  pub read-more : {x : ℕ} → x ≡ cell value i → x ≤ 63 → least ≤ x → Read value n (set exponents i x) (x + 1) (i + 1)
-  unfolding cellChecks
-  read-more {x} e l f = record {
-    within = omega arith;
-    few = g .few;
-    counted = g .counted;
-    row = rw (g .row, e) (padded-each mostSizes 0 (cell value) i (omega (arith, g .few)));
-    floor = rw (add-one i, e);
-    rest =
-        ap (λ (j : ℕ). firstFault (refuse noSizes) (cellChecks (n - (i + 1)) value j) (whole value)) (add-one i)
-        ∙ sym (holds-on (refuse noSizes) _ _ (whole value) (omega (arith, tests))
-        ∙ holds-on (refuse noSizes) _ _ (whole value) (not-less value i (omega (arith, g .floor))))
-        ∙ (rw step at (g .rest));
-  }
+  module _ (h : i < n) {x : ℕ} (e : x ≡ cellAt value (4 * i)) where
+    at-cell : getD (cellsIn value) i 0 ≡ x
+    at-cell =
+        let l : i < length value / 4 = omega (arith, g .counted, count-cells value) in
+        row-at (length value / 4) (λ (j : ℕ). cellAt value (4 * j)) i 0 l ∙ sym e
 
-pub read-all : {value : List ℕ} {n : ℕ} {exponents : List ℕ} {least i : ℕ} → Read value n exponents least i → n ≤ i
-    → answer (record { count = n; exponents = exponents }) ≡ sizes value
-unfolding cellChecks firstFault sizeTable
-read-all {value} {n} {exponents} {least} {i} g h =
-    let e : i ≡ n = omega (arith, g .within) in
-    let z : n - i ≡ zero = omega arith in
-    let r : whole value ≡ sizes value = rw z at (g .rest) in
-    rw (g .row, e, g .counted) r
+    here : drop i (cellsIn value) ≡ x ∷ drop (suc i) (cellsIn value)
+    here = drop-cons (cellsIn value) i 0 (omega (arith, g .counted)) ∙ ap (λ (c : ℕ). c ∷ drop (suc i) (cellsIn value)) at-cell
+
+    row-next : set exponents i x ≡ padded mostSizes 0 (take (i + 1) (cellsIn value))
+    row-next =
+        rw (g .row)
+        (ap (set (padded mostSizes 0 (take i (cellsIn value))) i) (sym at-cell)
+        ∙ padded-take mostSizes 0 (cellsIn value) i (omega (arith, g .few)) (omega (arith, g .counted)))
+
+    pub read-gap : rule x ≡ None → Read rule value n (set exponents i x) least (i + 1)
+    unfolding cellChecks
+    read-gap s = record {
+      within = omega arith;
+      few = g .few;
+      counted = g .counted;
+      row = row-next;
+      last = g .last;
+      floor = g .floor;
+      rest = rw (add-one i) (rw (here, s) at (g .rest));
+      none = λ z. rw (add-one i) (rw (here, s) at (g .none z));
+      some = g .some;
+    }
+
+    module _ {size : ℕ} (s : rule x ≡ Exponent size) where
+      pub read-large : largestExponent < size → refuse noSizes 12 ≡ sizes rule value
+      unfolding cellChecks
+      read-large l = sym (stops (refuse noSizes) 0 0 _ (whole rule value) (omega (arith, tests))) ∙ (rw (here, s) at (g .rest))
+
+      pub read-falls : size ≤ largestExponent → size < least → refuse noSizes 19 ≡ sizes rule value
+      unfolding cellChecks
+      read-falls l f =
+          sym (stops (refuse noSizes) 0 1 _ (whole rule value) (omega (arith, tests), less (g .last) size (rw (g .floor) at f)))
+          ∙ (rw (here, s) at (g .rest))
+
+      pub read-size : size ≤ largestExponent → least ≤ size → Read rule value n (set exponents i x) (size + 1) (i + 1)
+      unfolding cellChecks
+      read-size l f = record {
+        within = omega arith;
+        few = g .few;
+        counted = g .counted;
+        row = row-next;
+        last = Exponent size;
+        floor = refl;
+        rest =
+            rw (add-one i)
+            (sym (holds-on (refuse noSizes) _ _ (whole rule value) (omega (arith, tests))
+            ∙ holds-on (refuse noSizes) _ _ (whole rule value) (not-less (g .last) size (rw (g .floor) at f)))
+            ∙ (rw (here, s) at (g .rest)));
+        none = λ z. absurd (omega arith);
+        some = λ z. sized (decLt 0 least);
+      }
+        where
+          sized : Dec (0 < least) → 0 < length (exponentsFrom rule value 0)
+          sized (yes z) = g .some z
+          sized (no z) = let e = rw (here, s) at (g .none (omega arith)) in omega arith

@@ -1,2 +1,4 @@
+pub mod Rules
 pub mod Ascending
+pub mod Accepted
 pub mod Answers

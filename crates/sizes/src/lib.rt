@@ -2,7 +2,8 @@
 use refusal::Refusal;
 ghost use mathlib.Core.Path.{_≡_};
 ghost use Rattle.refusal.specs.Refusal.{numberOf, refuse};
-ghost use Rattle.sizes.specs.Sizes.{noSizes, sizes, sizesOutcome};
+ghost use Rattle.sizes.specs.Sizes.{noSizes, sizeOrNone, sizes, pageSizes, segmentSizes, sizesOutcome};
+ghost use Rattle.sizes.specs.Parts.{ruleOf};
 
 // The most cells of a table of sizes.
 pub const MOST_SIZES: usize = 16;
@@ -10,7 +11,16 @@ pub const MOST_SIZES: usize = 16;
 // The largest exponent.
 pub const LARGEST_EXPONENT: u32 = 63;
 
-// The exponents of a table, in its order, and zeros.
+// The cell of segment sizes that says that there is no size in its place.
+pub const NO_SIZE: u32 = 0xffffffff;
+
+// What stands in a place of a table: a size, by its exponent, or none.
+pub enum Size {
+    Exponent(u32),
+    None,
+}
+
+// The cells of a table, each in its place, and zeros. Of page sizes each is an exponent; of segment sizes `size_or_none` says what it is.
 #[repr(C)]
 pub struct SizeTable {
     pub count: u32,
@@ -20,6 +30,31 @@ pub struct SizeTable {
 pub struct Sizes {
     pub refusal: Refusal,
     pub table: SizeTable,
+}
+
+// How the cells of a property read.
+enum Rule {
+    SizeOnly,
+    SizeOrNone,
+}
+
+// What a cell of segment sizes says.
+pub fn size_or_none(exponent: u32) -> Size
+    ensures { λ r. ⌜ r ≡ sizeOrNone exponent ⌝ }
+{
+    if exponent == NO_SIZE {
+        return Size::None;
+    }
+    Size::Exponent(exponent)
+}
+
+fn size_by(rule: Rule, cell: u32) -> Size
+    ensures { λ r. ⌜ r ≡ ruleOf rule cell ⌝ }
+{
+    match rule {
+        Rule::SizeOnly => Size::Exponent(cell),
+        Rule::SizeOrNone => size_or_none(cell),
+    }
 }
 
 fn refused(refusal: Refusal) -> Sizes
@@ -32,8 +67,9 @@ fn refused(refusal: Refusal) -> Sizes
     Sizes { refusal, table }
 }
 
-fn ascending_sizes(value: &[u8]) -> Sizes
-    ensures { λ r. ⌜ sizesOutcome r ≡ sizes (now (value .entry)) ⌝ }
+// Sizes by a rule. `least` is the least exponent that may follow: 0 as long as there is no size.
+fn sizes_by(rule: Rule, value: &[u8]) -> Sizes
+    ensures { λ r. ⌜ sizesOutcome r ≡ sizes (ruleOf rule) (now (value .entry)) ⌝ }
 {
     if value.len() == 0 {
         return refused(Refusal::PropertyForm);
@@ -49,16 +85,24 @@ fn ascending_sizes(value: &[u8]) -> Sizes
     let mut least: u32 = 0;
     let mut i = 0;
     while i < count {
-        let exponent = cells::cell_at(value, 4 * i);
-        if LARGEST_EXPONENT < exponent {
-            return refused(Refusal::OutOfRange);
+        let cell = cells::cell_at(value, 4 * i);
+        match size_by(rule, cell) {
+            Size::Exponent(exponent) => {
+                if LARGEST_EXPONENT < exponent {
+                    return refused(Refusal::OutOfRange);
+                }
+                if exponent < least {
+                    return refused(Refusal::NotAscending);
+                }
+                least = exponent + 1;
+            }
+            Size::None => {}
         }
-        if exponent < least {
-            return refused(Refusal::NotAscending);
-        }
-        exponents[i] = exponent;
-        least = exponent + 1;
+        exponents[i] = cell;
         i += 1;
+    }
+    if least == 0 {
+        return refused(Refusal::PropertyForm);
     }
     let table = SizeTable {
         count: count as u32,
@@ -72,14 +116,14 @@ fn ascending_sizes(value: &[u8]) -> Sizes
 
 // The value of `ibm,processor-page-sizes`. Refusals: 11, 8, then cell by cell 12, 19.
 pub fn page_sizes(value: &[u8]) -> Sizes
-    ensures { λ r. ⌜ sizesOutcome r ≡ sizes (now (value .entry)) ⌝ }
+    ensures { λ r. ⌜ sizesOutcome r ≡ pageSizes (now (value .entry)) ⌝ }
 {
-    ascending_sizes(value)
+    sizes_by(Rule::SizeOnly, value)
 }
 
-// The value of `ibm,processor-segment-sizes`. Refusals: 11, 8, then cell by cell 12, 19.
+// The value of `ibm,processor-segment-sizes`. Refusals: 11, 8, then cell by cell 12, 19; 11 where no cell is a size.
 pub fn segment_sizes(value: &[u8]) -> Sizes
-    ensures { λ r. ⌜ sizesOutcome r ≡ sizes (now (value .entry)) ⌝ }
+    ensures { λ r. ⌜ sizesOutcome r ≡ segmentSizes (now (value .entry)) ⌝ }
 {
-    ascending_sizes(value)
+    sizes_by(Rule::SizeOrNone, value)
 }

@@ -1,11 +1,12 @@
 // The kinds of vectors for CPU properties and unit text. Each function puts one line and answers whether the bytes are a vector.
 use crate::line::put_bytes;
 use crate::line::put_cells;
+use crate::line::put_none;
 use crate::line::put_number;
 use crate::line::put_start;
 use segments::Descriptor;
 use segments::SegmentTable;
-use sizes::Sizes;
+use sizes::Size;
 
 const DESCRIPTORS: usize = 8;
 
@@ -37,12 +38,38 @@ pub(crate) fn unit_written(value: &mut [u8]) -> bool {
     true
 }
 
-pub(crate) fn sizes(kind: u8, sizes: Sizes) -> bool {
-    let refusal = sizes.refusal;
-    let table = sizes.table;
-    put_start(kind, refusal);
+pub(crate) fn page_sizes(value: &[u8]) -> bool {
+    let read = sizes::page_sizes(value);
+    let refusal = read.refusal;
+    let table = read.table;
+    put_start(b'p', refusal);
     put_number(table.count as u64);
     put_cells(&table.exponents);
+    true
+}
+
+fn put_size(exponent: u32) {
+    match sizes::size_or_none(exponent) {
+        Size::Exponent(size) => put_number(size as u64),
+        Size::None => put_none(),
+    }
+}
+
+fn put_sizes(exponents: &[u32]) {
+    let mut i = 0;
+    while i < exponents.len() {
+        put_size(exponents[i]);
+        i += 1;
+    }
+}
+
+pub(crate) fn segment_sizes(value: &[u8]) -> bool {
+    let read = sizes::segment_sizes(value);
+    let refusal = read.refusal;
+    let table = read.table;
+    put_start(b's', refusal);
+    put_number(table.count as u64);
+    put_sizes(&table.exponents);
     true
 }
 

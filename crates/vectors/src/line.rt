@@ -12,6 +12,11 @@ pub(crate) fn put_number(number: u64) {
     io::print_decimal(STDOUT_FILENO, number);
 }
 
+// Puts that there is no number in a place.
+pub(crate) fn put_none() {
+    io::write_all(STDOUT_FILENO, b" none");
+}
+
 pub(crate) fn put_refusal(refusal: Refusal) {
     put_number(refusal::number(refusal) as u64);
 }

@@ -38,8 +38,8 @@ fn tree_answer(kind: u8, value: &[u8]) -> bool {
 // Puts the line of a vector whose bytes are only read; false if it is none.
 fn read_answer(kind: u8, value: &[u8]) -> bool {
     match kind {
-        b'p' => cpu::sizes(kind, sizes::page_sizes(value)),
-        b's' => cpu::sizes(kind, sizes::segment_sizes(value)),
+        b'p' => cpu::page_sizes(value),
+        b's' => cpu::segment_sizes(value),
         b'g' => cpu::segment_page_sizes(value),
         b'a' => cpu::pa_features(value),
         b'i' => cpu::pi_features(value),
