@@ -8,7 +8,7 @@ use lib.ListN.{length}
 use Rattle.cells.specs.Cells.{cellsIn}
 use Rattle.sizes.specs.declared.Size.{Size}
 use Rattle.sizes.specs.declared.Size.the-variants.{Exponent, None}
-use Rattle.sizes.specs.Sizes.{cellChecks, plainChecks, sizeChecks}
+use Rattle.sizes.specs.Sizes.{placeChecks, plainChecks, sizeChecks}
 use Rattle.segments.specs.Segments as segments
 use Rattle.attributes.specs.Attributes as attributes
 use Rattle.cases.proofs.EndLaws.{allOneOf, both-one-of, where-one-of}
@@ -17,8 +17,8 @@ use Rattle.cases.proofs.EndLaws.{allOneOf, both-one-of, where-one-of}
 abbrev pub sizeNumbers : List ℕ
 sizeNumbers = 8 ∷ 11 ∷ 12 ∷ 19 ∷ []
 
-cells-numbered : (last : Size) (places : List Size) → allOneOf sizeNumbers (cellChecks last places) ≡ true
-unfolding cellChecks
+cells-numbered : (last : Size) (places : List Size) → allOneOf sizeNumbers (placeChecks last places) ≡ true
+unfolding placeChecks
 cells-numbered last [] = refl
 cells-numbered last (None ∷ places) = cells-numbered last places
 cells-numbered last (Exponent e ∷ places) = cells-numbered (Exponent e) places

@@ -1,5 +1,5 @@
 -- The values of a node's properties (document 01, "The feature record").
-use Prim.Native.Nat.{ℕ, _/_, _%_, _*_}
+use Prim.Native.Nat.{ℕ, _%_}
 use Prim.Native.String.{String}
 use mathlib.Core.Bool.{Bool, true, false}
 use mathlib.Core.List.{List, [], _∷_}

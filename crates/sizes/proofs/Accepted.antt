@@ -1,21 +1,20 @@
 -- A value is accepted exactly when it is the bytes of cells with sizes within bounds; it is that of one list of cells only, and the answer is
 -- the table of these. Assumes nothing.
 use mathlib.Core.Path.{_≡_, refl, sym, ap, ap₂, _∙_}
-use mathlib.Core.Bool.{true}
-use mathlib.Core.List.{List, [], _∷_, _++_, map, flatMap}
+use mathlib.Core.List.{List, [], _∷_, map}
 use mathlib.Core.Logic.{_↔_}
 use Prim.Native.Nat.{ℕ, _-_, _*_, _%_, _<_, _≤_}
 use native.Mathlib.Omega.{arith}
-use lib.Dec.{T, leb→le, ltb→lt, eqb→eq}
-use lib.ListN.{length, replicate, take}
+use lib.Dec.{leb→le, ltb→lt, eqb→eq}
+use lib.ListN.{length, replicate}
 use lib.Seq.{take-append-seam}
 use Rattle.refusal.specs.Refusal.{Outcome, answer, refuse}
-use Rattle.refusal.specs.Checks.{Check, check, firstFault}
+use Rattle.refusal.specs.Checks.{firstFault}
 use Rattle.refusal.proofs.Checks.{Passes, Numbered, passes, passes-join, passes-both, numbered-both, follows, answered, tests}
 use Rattle.cells.specs.Cells.{cellsIn}
-use Rattle.cells.specs.Bytes.{IsByte, cellBytes, Each}
+use Rattle.cells.specs.Bytes.{IsByte, Each}
 use Rattle.cells.proofs.CellRows.{length-cells, count-cells, cells-back, bytes-back, are-cells}
-use Rattle.sizes.specs.Sizes.{mostSizes, largestExponent, noSize, sizeOnly, sizeOrNone, exponentsIn, ascends, cellChecks, plainChecks, sizeChecks, noSizes, sizeTable, sizes, pageSizes, segmentSizes}
+use Rattle.sizes.specs.Sizes.{mostSizes, largestExponent, noSize, sizeOnly, sizeOrNone, exponentsIn, ascends, placeChecks, plainChecks, sizeChecks, noSizes, sizeTable, sizes, pageSizes, segmentSizes}
 use Rattle.sizes.specs.SizeCells.{Ascending, Sized, SizeCells, placesIn}
 use Rattle.sizes.specs.declared.Size.{Size}
 use Rattle.sizes.specs.declared.Size.the-variants.{Exponent, None}
@@ -28,32 +27,31 @@ After None es = Ascending es
 After (Exponent e) es = Ascending (e ∷ es)
 
 -- the checks of places hold exactly where their exponents are within bounds and ascend
-module _ where
-  pub checked-within : (last : Size) (places : List Size) → Passes (cellChecks last places) → Each (λ e. e ≤ largestExponent) (exponentsIn places) × After last (exponentsIn places)
-  unfolding cellChecks ascends
-  checked-within None [] h = (tt, tt)
-  checked-within (Exponent l) [] h = (tt, tt)
-  checked-within last (None ∷ places) h = checked-within last places h
-  checked-within None (Exponent e ∷ places) h =
-      let r = checked-within (Exponent e) places (h .1 .1) in
-      ((leb→le e largestExponent (h .0), r .0), r .1)
-  checked-within (Exponent l) (Exponent e ∷ places) h =
-      let r = checked-within (Exponent e) places (h .1 .1) in
-      ((leb→le e largestExponent (h .0), r .0), (ltb→lt l e (h .1 .0), r .1))
+checked-within : (last : Size) (places : List Size) → Passes (placeChecks last places) → Each (λ e. e ≤ largestExponent) (exponentsIn places) × After last (exponentsIn places)
+unfolding placeChecks ascends
+checked-within None [] h = (tt, tt)
+checked-within (Exponent l) [] h = (tt, tt)
+checked-within last (None ∷ places) h = checked-within last places h
+checked-within None (Exponent e ∷ places) h =
+    let r = checked-within (Exponent e) places (h .1 .1) in
+    ((leb→le e largestExponent (h .0), r .0), r .1)
+checked-within (Exponent l) (Exponent e ∷ places) h =
+    let r = checked-within (Exponent e) places (h .1 .1) in
+    ((leb→le e largestExponent (h .0), r .0), (ltb→lt l e (h .1 .0), r .1))
 
-  pub within-checked : (last : Size) (places : List Size) → Each (λ e. e ≤ largestExponent) (exponentsIn places) → After last (exponentsIn places) → Passes (cellChecks last places)
-  unfolding cellChecks ascends
-  within-checked None [] h a = tt
-  within-checked (Exponent l) [] h a = tt
-  within-checked None (None ∷ places) h a = within-checked None places h a
-  within-checked (Exponent l) (None ∷ places) h a = within-checked (Exponent l) places h a
-  within-checked None (Exponent e ∷ places) h a = (omega (arith, tests, h .0), (tt, within-checked (Exponent e) places (h .1) a))
-  within-checked (Exponent l) (Exponent e ∷ places) h a =
-      (omega (arith, tests, h .0), (omega (arith, tests, a .0), within-checked (Exponent e) places (h .1) (a .1)))
+within-checked : (last : Size) (places : List Size) → Each (λ e. e ≤ largestExponent) (exponentsIn places) → After last (exponentsIn places) → Passes (placeChecks last places)
+unfolding placeChecks ascends
+within-checked None [] h a = tt
+within-checked (Exponent l) [] h a = tt
+within-checked None (None ∷ places) h a = within-checked None places h a
+within-checked (Exponent l) (None ∷ places) h a = within-checked (Exponent l) places h a
+within-checked None (Exponent e ∷ places) h a = (omega (arith, tests, h .0), (tt, within-checked (Exponent e) places (h .1) a))
+within-checked (Exponent l) (Exponent e ∷ places) h a =
+    (omega (arith, tests, h .0), (omega (arith, tests, a .0), within-checked (Exponent e) places (h .1) (a .1)))
 
 -- every fault is a number of the table
-numbered-cells : (last : Size) (places : List Size) → Numbered (cellChecks last places)
-unfolding cellChecks
+numbered-cells : (last : Size) (places : List Size) → Numbered (placeChecks last places)
+unfolding placeChecks
 numbered-cells last [] = tt
 numbered-cells last (None ∷ places) = numbered-cells last places
 numbered-cells last (Exponent e ∷ places) = (omega arith, (omega arith, numbered-cells (Exponent e) places))

@@ -16,7 +16,7 @@ use Rattle.cells.specs.Cells.{cellAt, cellsIn}
 use Rattle.cells.specs.Rows.{padded}
 use Rattle.cells.proofs.Rows.{row-at, padded-take}
 use Rattle.cells.proofs.CellRows.{count-cells}
-use Rattle.sizes.specs.Sizes.{exponentsIn, ascends, cellChecks, plainChecks, sizeChecks, noSizes, sizeTable, sizes, mostSizes, largestExponent}
+use Rattle.sizes.specs.Sizes.{exponentsIn, ascends, placeChecks, plainChecks, sizeChecks, noSizes, sizeTable, sizes, mostSizes, largestExponent}
 use Rattle.sizes.specs.declared.Size.{Size}
 use Rattle.sizes.specs.declared.Size.the-variants.{Exponent, None}
 use Rattle.sizes.specs.declared.SizeTable.{SizeTable}
@@ -55,7 +55,7 @@ module _ (rule : ℕ → Size) (value : List ℕ) where
     pub row : exponents ≡ padded mostSizes 0 (take i (cellsIn value))
     pub last : Size
     pub floor : least ≡ above last
-    pub rest : firstFault (refuse noSizes) (cellChecks last (map rule (drop i (cellsIn value))) ++ lastCheck) whole ≡ sizes rule value
+    pub rest : firstFault (refuse noSizes) (placeChecks last (map rule (drop i (cellsIn value))) ++ lastCheck) whole ≡ sizes rule value
     pub none : least ≡ 0 → length (exponentsFrom 0) ≡ length (exponentsFrom i)
     pub some : 0 < least → 0 < length (exponentsFrom 0)
 
@@ -82,7 +82,7 @@ module _ {rule : ℕ → Size} {value : List ℕ} {n : ℕ} {exponents : List �
   ended h = let e : i ≡ length (cellsIn value) = omega (arith, g .within, g .counted) in rw e (drop-length (cellsIn value))
 
   pub read-all : n ≤ i → 0 < least → answer (record { count = n; exponents = exponents }) ≡ sizes rule value
-  unfolding cellChecks firstFault sizeTable
+  unfolding placeChecks firstFault sizeTable
   read-all h l =
       let e : i ≡ length (cellsIn value) = omega (arith, g .within, g .counted) in
       let r = rw (ended h) at (g .rest) in
@@ -91,7 +91,7 @@ module _ {rule : ℕ → Size} {value : List ℕ} {n : ℕ} {exponents : List �
       rw (g .row, e, g .counted, take-length (cellsIn value)) t
 
   pub read-gaps : n ≤ i → least ≡ 0 → refuse noSizes 11 ≡ sizes rule value
-  unfolding cellChecks firstFault
+  unfolding placeChecks firstFault
   read-gaps h l =
       let r = rw (ended h) at (g .rest) in
       let z : length (exponentsFrom rule value 0) ≡ 0 = rw (ended h) at (g .none l) in
@@ -113,7 +113,7 @@ module _ {rule : ℕ → Size} {value : List ℕ} {n : ℕ} {exponents : List �
         ∙ padded-take mostSizes 0 (cellsIn value) i (omega (arith, g .few)) (omega (arith, g .counted)))
 
     pub read-gap : rule x ≡ None → Read rule value n (set exponents i x) least (i + 1)
-    unfolding cellChecks
+    unfolding placeChecks
     read-gap s = record {
       within = omega arith;
       few = g .few;
@@ -128,17 +128,17 @@ module _ {rule : ℕ → Size} {value : List ℕ} {n : ℕ} {exponents : List �
 
     module _ {size : ℕ} (s : rule x ≡ Exponent size) where
       pub read-large : largestExponent < size → refuse noSizes 12 ≡ sizes rule value
-      unfolding cellChecks
+      unfolding placeChecks
       read-large l = sym (stops (refuse noSizes) 0 0 _ (whole rule value) (omega (arith, tests))) ∙ (rw (here, s) at (g .rest))
 
       pub read-falls : size ≤ largestExponent → size < least → refuse noSizes 19 ≡ sizes rule value
-      unfolding cellChecks
+      unfolding placeChecks
       read-falls l f =
           sym (stops (refuse noSizes) 0 1 _ (whole rule value) (omega (arith, tests), less (g .last) size (rw (g .floor) at f)))
           ∙ (rw (here, s) at (g .rest))
 
       pub read-size : size ≤ largestExponent → least ≤ size → Read rule value n (set exponents i x) (size + 1) (i + 1)
-      unfolding cellChecks
+      unfolding placeChecks
       read-size l f = record {
         within = omega arith;
         few = g .few;

@@ -46,10 +46,10 @@ ascends None e = true
 ascends (Exponent last) e = ltb last e
 
 -- "then cell by cell, 12 before 19", where a size stands
-unfoldable pub cellChecks : Size → List Size → List (Check ℕ)
-cellChecks last [] = []
-cellChecks last (None ∷ places) = cellChecks last places
-cellChecks last (Exponent e ∷ places) = check (leb e largestExponent) 12 ∷ check (ascends last e) 19 ∷ cellChecks (Exponent e) places
+unfoldable pub placeChecks : Size → List Size → List (Check ℕ)
+placeChecks last [] = []
+placeChecks last (None ∷ places) = placeChecks last places
+placeChecks last (Exponent e ∷ places) = check (leb e largestExponent) 12 ∷ check (ascends last e) 19 ∷ placeChecks (Exponent e) places
 
 -- "Plain cells: length first (11), maxima (8), then cell by cell"
 unfoldable pub plainChecks : (ℕ → Size) → List ℕ → List (Check ℕ)
@@ -57,7 +57,7 @@ plainChecks rule value =
     check (ltb 0 (length value)) 11
     ∷ check (eqb (length value % 4) 0) 11
     ∷ check (leb (length (cellsIn value)) mostSizes) 8
-    ∷ cellChecks None (map rule (cellsIn value))
+    ∷ placeChecks None (map rule (cellsIn value))
 
 -- "gaps only is 11, after all cell checks"
 unfoldable pub sizeChecks : (ℕ → Size) → List ℕ → List (Check ℕ)

@@ -104,14 +104,10 @@ fn sizes_by(rule: Rule, value: &[u8]) -> Sizes
     if least == 0 {
         return refused(Refusal::PropertyForm);
     }
-    let table = SizeTable {
-        count: count as u32,
-        exponents,
-    };
-    Sizes {
-        refusal: Refusal::None,
-        table,
-    }
+    let count = count as u32;
+    let table = SizeTable { count, exponents };
+    let refusal = Refusal::None;
+    Sizes { refusal, table }
 }
 
 // The value of `ibm,processor-page-sizes`. Refusals: 11, 8, then cell by cell 12, 19.

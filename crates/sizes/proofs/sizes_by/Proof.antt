@@ -106,8 +106,8 @@ refused-requires-6 c κs = search needs
 returns-6 : tie.Need-returns-6 Inv-loop μ-loop
 returns-6 c = c .refused6 .ensures ∙ read-gaps (c .before .before .before .loop .inv) (omega arith) (c .before .if6 .taken)
 
-cast-t25 : tie.Need-cast-t25 Inv-loop μ-loop
-cast-t25 c = search needs
+cast-count : tie.Need-cast-count Inv-loop μ-loop
+cast-count c = search needs
 
 returns-7 : tie.Need-returns-7 Inv-loop μ-loop
 returns-7 c = read-all (c .before .before .loop .inv) (omega arith) (omega arith)
@@ -142,5 +142,5 @@ sizes-by-spec =
     loop-again
     refused-requires-6
     returns-6
-    cast-t25
+    cast-count
     returns-7)
