@@ -6,7 +6,8 @@ A name between backquotes is looked at where its form says what it is:
   crate::function          a function of that crate
   crate/label              a must-fail edit, where the words before it say `edit`; a label without a crate is of the crate named last
   name, other (`crate/specs/File.antt`)    names that stand in that file
-And README.md's table has every listed crate, and no other."""
+And README.md's table has every listed crate, and no other; what a must-fail edit replaces stands once in its file, which the gate would
+find out some minutes later."""
 import pathlib
 import re
 import sys
@@ -86,9 +87,21 @@ def check_table(crates):
         fault("README.md", 1, f"the table of crates and crates.txt differ in {crate}")
 
 
+def check_replaced():
+    for edit in sorted(CRATES.glob("*/must-fail/*.edit")):
+        file = None
+        for line, text in enumerate(edit.read_text().splitlines(), 1):
+            kind, _, words = text.partition(": ")
+            if kind == "file":
+                file = edit.parents[1] / words
+            if kind == "old" and file.read_text().count(words) != 1:
+                fault(edit.relative_to(TOP), line, f"what it replaces does not stand once in {file.relative_to(TOP)}")
+
+
 def main():
     crates = listed()
     check_table(crates)
+    check_replaced()
     for document in [TOP / "README.md", *sorted((TOP / "docs").rglob("*.md"))]:
         name = document.relative_to(TOP)
         for line, text in enumerate(document.read_text().splitlines(), 1):
@@ -96,7 +109,7 @@ def main():
             check_functions(name, line, text, crates)
             check_edits(name, line, text, crates)
             check_names(name, line, text)
-    print("\n".join(faults) if faults else "documents: what they cite is there")
+    print("\n".join(faults) if faults else "documents and edits: what they cite is there")
     sys.exit(1 if faults else 0)
 
 
