@@ -165,7 +165,7 @@ pub record Demand1Lookup (cpu parent strings name : List ℕ) : Type 0 where
 
 -- `page_sizes` and `segment_sizes`, `segment_page_sizes`, `pa_features`, `pi_features` and `bus_frequency`, of a value
 pub record Demand1Value (value : List ℕ) : Type 0 where
-  -- "length first (11), maxima (8), then cell by cell, 12 before 19"
+  -- "length first (11), maxima (8), then cell by cell, 12 before 19"; of segment sizes "gaps only is 11, after all cell checks"
   pub pagesEnds : Ends (8 ∷ 11 ∷ 12 ∷ 19 ∷ []) noSizes (pageSizes value)
   pub sizesOfSegmentsEnds : Ends (8 ∷ 11 ∷ 12 ∷ 19 ∷ []) noSizes (segmentSizes value)
   -- "a ninth of sizes is 8, a header cut short 11, a count of 0 .. is 12"

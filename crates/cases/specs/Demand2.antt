@@ -72,7 +72,7 @@ pub record Demand2Value (value : List ℕ) : Type 0 where
   -- `ibm,processor-page-sizes`: each cell is a size, and document 01's checks alone decide
   pub pages : Demand2Sizes sizeOnly pageSizes value
   pub pagesPlain : pageSizes value ≡ firstFault (refuse noSizes) (plainChecks sizeOnly value) (answer (sizeTable (cellsIn value)))
-  -- `ibm,processor-segment-sizes`: a cell of all ones is no size, and "its place is kept"; without such a cell the answer is that of before
+  -- `ibm,processor-segment-sizes`: a cell of all ones is no size, and "its place is kept"; without such a cell the answer is that of page sizes
   pub sizesOfSegments : Demand2Sizes sizeOrNone segmentSizes value
   pub places : (cells : List ℕ) → SizeCells sizeOrNone cells value → placesIn (segmentSizes value .value) ≡ map sizeOrNone cells
   pub withoutGaps : Each (λ n. n ≡ noSize → ⊥) (cellsIn value) → segmentSizes value ≡ pageSizes value

@@ -1,4 +1,5 @@
-// Page and segment sizes: cells that are exponents of powers of two, strictly ascending.
+// Page and segment sizes: cells that are exponents of powers of two, strictly ascending. A cell of segment sizes may say that there is no
+// size in its place.
 use refusal::Refusal;
 ghost use mathlib.Core.Path.{_≡_};
 ghost use Rattle.refusal.specs.Refusal.{numberOf, refuse};
