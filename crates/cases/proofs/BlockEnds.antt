@@ -21,10 +21,10 @@ use Rattle.positions.specs.Below.{firstThat}
 use Rattle.positions.proofs.FirstLaws.{IsFirst, first-that}
 use Rattle.record.specs.Record.{mostFeatures}
 use Rattle.feature.specs.declared.FeatureCells.{FeatureCells}
-use Rattle.feature.specs.Feature.{firstOf}
+use Rattle.feature.specs.Feature.{firstOf, firstAmong, cellNumbers}
 use Rattle.feature.specs.Phandles.{isAt}
 use Rattle.cases.specs.Ends.{isOneOf, Ends, answered, refused, EndsAt, answeredThere, refusedThere}
-use Rattle.cases.specs.Demand1.{Demand1Block, cellNumbers, Demand1Feature}
+use Rattle.cases.specs.Demand1.{Demand1Block, Demand1Feature}
 use Rattle.cases.proofs.EndLaws.{or-true, fault-one-of}
 
 -- a name: how many characters it has, or 7
@@ -69,10 +69,6 @@ of-block s stop strings from limit = record {
 }
 
 -- the first of some numbers that is a refusal is 0 or one of them
-abbrev firstOfAll : List ℕ → ℕ
-firstOfAll [] = 0
-firstOfAll (n ∷ ns) = firstOf n (firstOfAll ns)
-
 one-more : (a : ℕ) (ns : List ℕ) (r : ℕ) → isOneOf (0 ∷ ns) r ≡ true → isOneOf (0 ∷ a ∷ ns) (firstOf a r) ≡ true
 one-more zero ns r h = go (eqb r 0) h
   where
@@ -81,9 +77,9 @@ one-more zero ns r h = go (eqb r 0) h
     go false e = e
 one-more (suc a) ns r h = rw (eq-eqb (suc a) (suc a) refl) (or-true (eqb (suc a) 0))
 
-all-one : (ns : List ℕ) → isOneOf (0 ∷ ns) (firstOfAll ns) ≡ true
+all-one : (ns : List ℕ) → isOneOf (0 ∷ ns) (firstAmong ns) ≡ true
 all-one [] = refl
-all-one (n ∷ ns) = one-more n ns (firstOfAll ns) (all-one ns)
+all-one (n ∷ ns) = one-more n ns (firstAmong ns) (all-one ns)
 
 module _ (phandles : List ℕ) (n phandle : ℕ) where
   -- the position found is the first that has it

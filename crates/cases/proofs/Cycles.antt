@@ -13,7 +13,7 @@ use Rattle.positions.specs.Bits.{bit}
 use Rattle.positions.specs.Sets.{has, insertAt, collect, setOf, noMembers, firstPositions, memberCount}
 use Rattle.record.specs.declared.Record.{Record}
 use Rattle.record.specs.Cells.{bitOf, held, cell, dependencyCount}
-use Rattle.form.specs.WellFormed.{bitsFit, dependenciesFit, wellFormed}
+use Rattle.form.specs.WellFormed.{bitsFit, slotBelow, slotsFit, wellFormed}
 use Rattle.permitted.specs.declared.Grants.{Grants}
 use Rattle.permitted.specs.Permitted.{system, hypervisor, byRegister, isSupportedBelow, isPermitted, permittedSet}
 use Rattle.closure.specs.Enabled.{afterSweeps}
@@ -52,7 +52,7 @@ module _ (r : Record) (good : wellFormed r ≡ true) (level : ℕ) (known : leve
 
 -- A and B are permitted
 pub cycle-formed : wellFormed (cycle 2) ≡ true
-unfolding every bit bitOf held cell dependencyCount bitsFit dependenciesFit wellFormed
+unfolding every bit bitOf held cell dependencyCount bitsFit slotBelow slotsFit wellFormed
 cycle-formed = refl
 
 cycle-permitted : permittedSet (cycle 2) system noGrants ≡ 3 ∷ []
@@ -74,7 +74,7 @@ cycle-holds = enables-is (cycle 2) cycle-formed system (omega arith) noGrants cy
 
 -- B is not permitted
 pub blocked-formed : wellFormed (cycle 4) ≡ true
-unfolding every bit bitOf held cell dependencyCount bitsFit dependenciesFit wellFormed
+unfolding every bit bitOf held cell dependencyCount bitsFit slotBelow slotsFit wellFormed
 blocked-formed = refl
 
 blocked-permitted : permittedSet (cycle 4) system noGrants ≡ 1 ∷ []
@@ -105,7 +105,7 @@ blocked-reported =
 
 -- a feature that names itself
 self-formed : wellFormed selfNeeding ≡ true
-unfolding every bit bitOf held cell dependencyCount bitsFit dependenciesFit wellFormed
+unfolding every bit bitOf held cell dependencyCount bitsFit slotBelow slotsFit wellFormed
 self-formed = refl
 
 self-permitted : permittedSet selfNeeding system noGrants ≡ 1 ∷ []

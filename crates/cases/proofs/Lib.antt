@@ -9,5 +9,5 @@ pub mod Cycles
 pub mod Marked
 pub mod Refuted
 pub mod GraphLaws
-pub mod IsaLaws
+pub mod ButCellsLaws
 pub mod Ignored

@@ -6,7 +6,7 @@ use mathlib.Core.Bool.{true, false}
 use mathlib.Core.List.{List, [], _∷_}
 use mathlib.Core.Logic.{_↔_}
 use lib.ListN.{length, getD, replicate}
-use Rattle.refusal.specs.Refusal.{Outcome, numberOf}
+use Rattle.refusal.specs.Refusal.{Outcome}
 use Rattle.names.specs.Names.{nodeNameAt, propertyNameAt}
 use Rattle.tokens.specs.Steps.{stepAt, stepNumber}
 use Rattle.tokens.specs.Tokens.{tokens}
@@ -30,7 +30,7 @@ use Rattle.record.specs.declared.Record.{Record}
 use Rattle.record.specs.Record.{mostFeatures, noFeatures}
 use Rattle.form.specs.WellFormed.{wellFormed}
 use Rattle.feature.specs.declared.FeatureCells.{FeatureCells}
-use Rattle.feature.specs.Feature.{refusalOf}
+use Rattle.feature.specs.Feature.{cellNumbers, refusalOf}
 use Rattle.feature.specs.Phandles.{isAt}
 use Rattle.reading.specs.Features.{carries}
 use Rattle.nodes.specs.Nodes.{nodeAt}
@@ -132,21 +132,9 @@ pub record Demand1Block (s : List ℕ) (stop : ℕ) (strings : List ℕ) (from l
       (givenBefore t (nameAt strings from limit offset) (tokens s stop (nameAt strings from limit) first))) ≡ true
   pub propertiesEnd : (first : ℕ) → EndsAt (7 ∷ 9 ∷ []) 0 (readProperties stop [] (tokens s stop (nameAt strings from limit) first))
 
--- the cells of a feature as read: `refusal_of` answers 0 or the number of one of them
-abbrev pub cellNumbers : FeatureCells → List ℕ
-cellNumbers c =
-    numberOf (c .isa .refusal)
-    ∷ numberOf (c .support .«usable_privilege» .refusal)
-    ∷ numberOf (c .support .«hv_support» .refusal)
-    ∷ numberOf (c .support .«os_support» .refusal)
-    ∷ numberOf (c .bits .«hfscr_bit_nr» .refusal)
-    ∷ numberOf (c .bits .«fscr_bit_nr» .refusal)
-    ∷ numberOf (c .bits .«hwcap_bit_nr» .refusal)
-    ∷ numberOf (c .phandle .refusal)
-    ∷ numberOf (c .dependencies .refusal)
-    ∷ []
-
+-- `refusal_of` and `carrier_below`: the cells of a feature as read, and a phandle
 pub record Demand1Feature (c : FeatureCells) (phandles : List ℕ) (n phandle : ℕ) : Type 0 where
+  -- 0, or the number of one of the cells
   pub cellsEnd : isOneOf (0 ∷ cellNumbers c) (refusalOf c) ≡ true
   -- "A phandle that isn't found is .. never a position": what `carrier_below` answers as a position is below the bound and has the
   -- phandle; where it answers nowhere, no position below the bound has it

@@ -13,7 +13,8 @@ use Rattle.positions.proofs.SetLaws.{zeros}
 use Rattle.record.specs.Record.{mostFeatures, mostDependencies}
 use Rattle.permitted.proofs.PermittedLaws.{none-yet, next}
 use Rattle.tables.specs.Slots.{slotNumber, usedSlots}
-use Rattle.form.specs.Slots.{slotBelow, slotsFit, slotsFitAt}
+use Rattle.form.specs.WellFormed.{slotBelow, slotsFit}
+use Rattle.form.specs.Slots.{slotsFitAt}
 use Rattle.closure.specs.Slots.{slotsBelow}
 use Rattle.chain.specs.Parts.{BoundedPart}
 use Rattle.chain.specs.declared.Bounded.{Bounded}

@@ -1,52 +1,51 @@
 -- A feature by the cells of its properties: the first refusal among them, in document 01's order, and the feature where there is none.
-use Prim.Native.Nat.{ℕ, zero, suc, _+_, _*_}
+use Prim.Native.Nat.{ℕ, zero, suc}
+use mathlib.Core.List.{List, [], _∷_, map}
 use Rattle.refusal.specs.Refusal.{numberOf}
-use Rattle.positions.specs.Below.{oneIf}
 use Rattle.record.specs.declared.Feature.{Feature}
+use Rattle.record.specs.declared.Property.{Property}
+use Rattle.record.specs.declared.Property.the-variants.{Isa, UsablePrivilege, HvSupport, OsSupport, HfscrBitNr, FscrBitNr, HwcapBitNr, Phandle, Dependencies}
+use Rattle.record.specs.declared.Cell.{Cell}
+use Rattle.record.specs.Cells.{whenGiven, allProperties, featureWith}
+use Rattle.feature.specs.declared.CellRead.{CellRead}
 use Rattle.feature.specs.declared.FeatureCells.{FeatureCells}
 
--- the first of two numbers that is a refusal
+-- what was read of a property
+abbrev pub readOf : FeatureCells → Property → CellRead
+readOf c Isa = c .isa
+readOf c UsablePrivilege = c .support .«usable_privilege»
+readOf c HvSupport = c .support .«hv_support»
+readOf c OsSupport = c .support .«os_support»
+readOf c HfscrBitNr = c .bits .«hfscr_bit_nr»
+readOf c FscrBitNr = c .bits .«fscr_bit_nr»
+readOf c HwcapBitNr = c .bits .«hwcap_bit_nr»
+readOf c Phandle = c .phandle
+readOf c Dependencies = c .dependencies
+
+-- its cell: "Absent and zero differ"
+abbrev pub cellFrom : CellRead → Cell
+cellFrom r = whenGiven (r .given) (r .number)
+
+abbrev pub cellsFrom : FeatureCells → Property → Cell
+cellsFrom c p = cellFrom (readOf c p)
+
+-- the first of two numbers that is a refusal, and of some
 abbrev pub firstOf : ℕ → ℕ → ℕ
 firstOf zero n = n
 firstOf (suc m) n = suc m
 
--- the number of the first refusal of a feature's properties; 0 where there is none
-abbrev pub refusalOf : FeatureCells → ℕ
-refusalOf c =
-    firstOf (numberOf (c .isa .refusal))
-    (firstOf (numberOf (c .support .«usable_privilege» .refusal))
-    (firstOf (numberOf (c .support .«hv_support» .refusal))
-    (firstOf (numberOf (c .support .«os_support» .refusal))
-    (firstOf (numberOf (c .bits .«hfscr_bit_nr» .refusal))
-    (firstOf (numberOf (c .bits .«fscr_bit_nr» .refusal))
-    (firstOf (numberOf (c .bits .«hwcap_bit_nr» .refusal))
-    (firstOf (numberOf (c .phandle .refusal)) (firstOf (numberOf (c .dependencies .refusal)) 0))))))))
+abbrev pub firstAmong : List ℕ → ℕ
+firstAmong [] = 0
+firstAmong (n ∷ ns) = firstOf n (firstAmong ns)
 
--- the word `given`: a bit for each property, the first the lowest
-abbrev pub givenBits : FeatureCells → ℕ
-givenBits c =
-    oneIf (c .isa .given) * 1
-    + oneIf (c .support .«usable_privilege» .given) * 2
-    + oneIf (c .support .«hv_support» .given) * 4
-    + oneIf (c .support .«os_support» .given) * 8
-    + oneIf (c .bits .«hfscr_bit_nr» .given) * 16
-    + oneIf (c .bits .«fscr_bit_nr» .given) * 32
-    + oneIf (c .bits .«hwcap_bit_nr» .given) * 64
-    + oneIf (c .phandle .given) * 128
-    + oneIf (c .dependencies .given) * 256
+-- the numbers of the properties' refusals, "in this property order"; 0 where there is none
+abbrev pub cellNumbers : FeatureCells → List ℕ
+cellNumbers c = map (λ (p : Property). numberOf (readOf c p .refusal)) allProperties
+
+-- the number of the first refusal
+abbrev pub refusalOf : FeatureCells → ℕ
+refusalOf c = firstAmong (cellNumbers c)
 
 -- the feature at an offset
 abbrev pub featureFrom : ℕ → FeatureCells → Feature
-featureFrom at c = record {
-  offset = at;
-  given = givenBits c;
-  isa = c .isa .number;
-  «usable_privilege» = c .support .«usable_privilege» .number;
-  «hv_support» = c .support .«hv_support» .number;
-  «os_support» = c .support .«os_support» .number;
-  «hfscr_bit_nr» = c .bits .«hfscr_bit_nr» .number;
-  «fscr_bit_nr» = c .bits .«fscr_bit_nr» .number;
-  «hwcap_bit_nr» = c .bits .«hwcap_bit_nr» .number;
-  phandle = c .phandle .number;
-  dependencies = c .dependencies .number;
-}
+featureFrom at c = featureWith at (cellsFrom c)

@@ -9,7 +9,8 @@ ghost use Prim.Native.Nat.{_*_, _≤_, min};
 ghost use Rattle.refusal.specs.Refusal.{numberOf};
 ghost use Rattle.positions.specs.Below.{oneIf, firstThat};
 ghost use Rattle.record.specs.Record.{mostFeatures, noFeature};
-ghost use Rattle.feature.specs.Feature.{firstOf, refusalOf, givenBits, featureFrom};
+ghost use Rattle.record.specs.Cells.{givenIn, numberIn, givenWord};
+ghost use Rattle.feature.specs.Feature.{cellFrom, cellsFrom, firstOf, refusalOf, featureFrom};
 ghost use Rattle.feature.specs.Phandles.{isAt};
 
 // A property of one cell: its refusal; where there is none, whether it is given, and its number, zero where it is not.
@@ -70,14 +71,21 @@ pub fn refusal_of(c: FeatureCells) -> Refusal
 
 // A bit of the word `given`: set where the cell is given.
 fn given_bit(c: CellRead, bit: u32) -> u32
-    ensures { λ r. ⌜ (r ≡ oneIf (c .given) * bit) × (r ≤ bit) ⌝ }
+    ensures { λ r. ⌜ (r ≡ oneIf (givenIn (cellFrom c)) * bit) × (r ≤ bit) ⌝ }
 {
     if c.given { bit } else { 0 }
 }
 
+// The number of a cell, zero where it is not given.
+fn number_of(c: CellRead) -> u32
+    ensures { λ r. ⌜ r ≡ numberIn (cellFrom c) ⌝ }
+{
+    if c.given { c.number } else { 0 }
+}
+
 // The word `given`, a bit for each property in document 01's order, the first the lowest.
 fn given_word(c: FeatureCells) -> u32
-    ensures { λ r. ⌜ r ≡ givenBits c ⌝ }
+    ensures { λ r. ⌜ r ≡ givenWord (cellsFrom c) ⌝ }
 {
     given_bit(c.isa, 1)
         + given_bit(c.support.usable_privilege, 2)
@@ -97,15 +105,15 @@ pub fn feature_of(at: u32, c: FeatureCells) -> Feature
     Feature {
         offset: at,
         given: given_word(c),
-        isa: c.isa.number,
-        usable_privilege: c.support.usable_privilege.number,
-        hv_support: c.support.hv_support.number,
-        os_support: c.support.os_support.number,
-        hfscr_bit_nr: c.bits.hfscr_bit_nr.number,
-        fscr_bit_nr: c.bits.fscr_bit_nr.number,
-        hwcap_bit_nr: c.bits.hwcap_bit_nr.number,
-        phandle: c.phandle.number,
-        dependencies: c.dependencies.number,
+        isa: number_of(c.isa),
+        usable_privilege: number_of(c.support.usable_privilege),
+        hv_support: number_of(c.support.hv_support),
+        os_support: number_of(c.support.os_support),
+        hfscr_bit_nr: number_of(c.bits.hfscr_bit_nr),
+        fscr_bit_nr: number_of(c.bits.fscr_bit_nr),
+        hwcap_bit_nr: number_of(c.bits.hwcap_bit_nr),
+        phandle: number_of(c.phandle),
+        dependencies: number_of(c.dependencies),
     }
 }
 

@@ -1,7 +1,7 @@
 -- The test of well-formedness holds exactly of the records that are well formed, and of the record of no features. Assumes nothing.
 use Prim.Native.Nat.{ℕ}
 use mathlib.Core.Path.{_≡_, refl}
-use mathlib.Core.Bool.{Bool, true, false, _&&_}
+use mathlib.Core.Bool.{Bool, true, false}
 use native.Mathlib.Omega.{arith}
 use borrow.Author.Tests.{leb-true, ltb-true, le-leb, lt-ltb}
 use lib.Dec.{leb, ltb}
@@ -9,23 +9,27 @@ use Rattle.positions.specs.Below.{every}
 use Rattle.positions.proofs.BelowLaws.{and-left, and-right, no-way, every-at, every-of}
 use Rattle.record.specs.Record.{mostFeatures, mostDependencies, noFeatures, featureAt, slotAt}
 use Rattle.record.specs.Cells.{dependencyCount}
-use Rattle.form.specs.WellFormed.{bitFits, bitsFit, dependenciesFit, featureFits, wellFormed}
-use Rattle.form.specs.Formed.{BitFormed, FeatureFormed, Formed}
-use Rattle.form.proofs.BitLaws.{hypervisorFits, systemFits, userFits}
+use Rattle.form.specs.Formed.{InRange, FeatureFormed, Formed}
+use Rattle.form.specs.WellFormed.{bitFits, bitsFit, slotBelow, slotsFit, featureFits, wellFormed}
+use Rattle.form.proofs.BitLaws.{fits-hypervisor, fits-system, fits-capability}
 use Rattle.record.specs.declared.Feature.{Feature}
 use Rattle.record.specs.declared.Record.{Record}
 use Rattle.record.specs.declared.Cell.{Cell}
 use Rattle.record.specs.declared.Cell.the-variants.{Absent, Given}
 
-bit-formed : (highest : ℕ) (required : Bool) (c : Cell) → bitFits highest required c ≡ true → BitFormed highest required c
-bit-formed highest true Absent e = no-way false e refl
-bit-formed highest false Absent e = record { low = λ n h. let z : _≡_ {A = ℕ} 0 1 = cc in absurd (omega arith); present = λ h. no-way false h refl }
-bit-formed highest required (Given m) e = record { low = λ n h. let same : m ≡ n = cc in omega (arith, leb-true m highest e); present = λ h. (m, refl) }
+-- a bit number that fits is in range, and given where it is required; and the reverse
+in-range : (highest : ℕ) (required : Bool) (c : Cell) → bitFits highest required c ≡ true → InRange highest c
+in-range highest required Absent e n h = let z : _≡_ {A = ℕ} 0 1 = cc in absurd (omega arith)
+in-range highest required (Given m) e n h = let same : m ≡ n = cc in omega (arith, leb-true m highest e)
 
-bit-passes : (highest : ℕ) (required : Bool) (c : Cell) → BitFormed highest required c → bitFits highest required c ≡ true
-bit-passes highest true Absent b = let given = b .present refl in let z : _≡_ {A = ℕ} 0 1 = cc (given .1) in absurd (omega arith)
-bit-passes highest false Absent b = refl
-bit-passes highest required (Given n) b = le-leb n highest (b .low n refl)
+is-given : (highest : ℕ) (required : Bool) (c : Cell) → bitFits highest required c ≡ true → required ≡ true → (n : ℕ) × (c ≡ Given n)
+is-given highest required Absent e h = no-way false (rw h at e) refl
+is-given highest required (Given m) e h = (m, refl)
+
+bit-passes : (highest : ℕ) (required : Bool) (c : Cell) → InRange highest c → (required ≡ true → (n : ℕ) × (c ≡ Given n)) → bitFits highest required c ≡ true
+bit-passes highest true Absent low there = let given = there refl in let z : _≡_ {A = ℕ} 0 1 = cc (given .1) in absurd (omega arith)
+bit-passes highest false Absent low there = refl
+bit-passes highest required (Given n) low there = le-leb n highest (low n refl)
 
 module _ (r : Record) (i : ℕ) where
   abbrev feature : Feature
@@ -35,29 +39,32 @@ module _ (r : Record) (i : ℕ) where
   number = dependencyCount feature
 
   abbrev below : ℕ → Bool
-  below j = ltb (slotAt r i j) (r .count)
+  below = slotBelow (r .slots) (r .count) i
 
   feature-formed : featureFits r i ≡ true → FeatureFormed r i
-  unfolding bitsFit dependenciesFit
+  unfolding slotBelow slotsFit
   feature-formed e =
-      let bits = and-left (bitsFit feature) (dependenciesFit r i) e in
-      let two = and-left (hypervisorFits feature && systemFits feature) (userFits feature) bits in
-      let slots = and-right (bitsFit feature) (dependenciesFit r i) e in
+      let bits = and-left (bitsFit feature) _ e in
+      let hv = fits-hypervisor feature bits in
+      let os = fits-system feature bits in
+      let slots = and-right (bitsFit feature) _ e in
       record {
-        hfscr = bit-formed _ _ _ (and-left (hypervisorFits feature) (systemFits feature) two);
-        fscr = bit-formed _ _ _ (and-right (hypervisorFits feature) (systemFits feature) two);
-        hwcap = bit-formed _ _ _ (and-right (hypervisorFits feature && systemFits feature) (userFits feature) bits);
+        hfscr = in-range _ _ _ hv;
+        fscr = in-range _ _ _ os;
+        hwcap = in-range _ _ _ (fits-capability feature bits);
+        hfscrGiven = is-given _ _ _ hv;
+        fscrGiven = is-given _ _ _ os;
         few = leb-true number mostDependencies (and-left (leb number mostDependencies) (every number below) slots);
         below = λ j h. ltb-true (slotAt r i j) (r .count) (every-at number below (and-right (leb number mostDependencies) (every number below) slots) j h);
       }
 
   feature-passes : FeatureFormed r i → featureFits r i ≡ true
-  unfolding bitsFit dependenciesFit
+  unfolding bitsFit slotBelow slotsFit
   feature-passes f =
       rw (
-        bit-passes _ _ _ (f .hfscr),
-        bit-passes _ _ _ (f .fscr),
-        bit-passes _ _ _ (f .hwcap),
+        bit-passes _ _ _ (f .hfscr) (f .hfscrGiven),
+        bit-passes _ _ _ (f .fscr) (f .fscrGiven),
+        bit-passes _ false _ (f .hwcap) (λ h. no-way false h refl),
         le-leb number mostDependencies (f .few),
         every-of number below (λ j h. lt-ltb (slotAt r i j) (r .count) (f .below j h)),
       )

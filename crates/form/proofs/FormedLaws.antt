@@ -12,8 +12,8 @@ use Rattle.positions.specs.Below.{every}
 use Rattle.positions.proofs.BelowLaws.{and-left, and-right, and-false, every-not, every-more, every-of}
 use Rattle.record.specs.Record.{mostFeatures, mostDependencies, featureAt}
 use Rattle.record.specs.Cells.{dependencyCount}
-use Rattle.form.specs.WellFormed.{bitsFit, dependenciesFit, featureFits, wellFormed}
-use Rattle.form.specs.Slots.{slotBelow, slotsFit, slotsFitAt, SlotsUpTo, fitsAt}
+use Rattle.form.specs.WellFormed.{bitsFit, slotBelow, slotsFit, featureFits, wellFormed}
+use Rattle.form.specs.Slots.{slotsFitAt, fitsAt, SlotsUpTo}
 use Rattle.record.specs.declared.Feature.{Feature}
 use Rattle.record.specs.declared.Record.{Record}
 
@@ -106,7 +106,7 @@ largest-all slots i l h e j k = let u = l .each j (omega arith) in omega arith
 module _ (r : Record) where
   -- a feature of the record fits at its position
   pub fits-feature : (i : ℕ) → i < mostFeatures → fitsAt (featureAt r i) (r .slots) (r .count) i ≡ featureFits r i
-  unfolding fitsAt slotBelow slotsFit dependenciesFit
+  unfolding fitsAt
   fits-feature i h = rw (lt-ltb i mostFeatures h)
 
   pub formed-many : mostFeatures < r .count → false ≡ wellFormed r
@@ -117,7 +117,6 @@ module _ (r : Record) where
   slotsOf i = slotsFit (r .slots) (r .count) i (dependencyCount (featureAt r i))
 
   pub fits-both : (i : ℕ) → bitsFit (featureAt r i) ≡ true → slotsOf i ≡ true → featureFits r i ≡ true
-  unfolding slotBelow slotsFit dependenciesFit
   fits-both i b s = rw b s
 
   formed-fail : (i : ℕ) → i < r .count → featureFits r i ≡ false → false ≡ wellFormed r
@@ -129,7 +128,6 @@ module _ (r : Record) where
   formed-bits i h e = formed-fail i h (rw e)
 
   pub formed-slots : (i : ℕ) → i < r .count → slotsOf i ≡ false → false ≡ wellFormed r
-  unfolding slotBelow slotsFit dependenciesFit
   formed-slots i h e = formed-fail i h (ap (λ (b : Bool). bitsFit (featureAt r i) && b) e ∙ and-false (bitsFit (featureAt r i)))
 
   -- by the test of one feature

@@ -1,3 +1,3 @@
-mod BitLaws
+pub mod BitLaws
 pub mod FormedLaws
 pub mod Formed

@@ -1,3 +1,3 @@
+pub mod Formed
 pub mod WellFormed
 pub mod Slots
-pub mod Formed

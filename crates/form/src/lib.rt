@@ -16,44 +16,44 @@ ghost use mathlib.Core.Path.{_≡_};
 ghost use Prim.Native.Nat.{_≤_, _<_};
 ghost use Rattle.positions.specs.Below.{every};
 ghost use Rattle.record.specs.Record.{mostFeatures, mostDependencies};
-ghost use Rattle.record.specs.Cells.{lowBit};
-ghost use Rattle.form.specs.WellFormed.{bitFits, bitsFit, wellFormed};
-ghost use Rattle.form.specs.Slots.{slotBelow, slotsFit, slotsFitAt, SlotsUpTo, fitsAt};
+ghost use Rattle.form.specs.WellFormed.{bitFits, bitsFit, slotBelow, slotsFit, wellFormed};
+ghost use Rattle.form.specs.Slots.{slotsFitAt, fitsAt, SlotsUpTo};
 
 // Up to so many dependencies are tested one by one.
 const FEW: usize = 4;
 
-// Whether a bit number is in range where given, and given where bit 0 of its support is set.
-fn bit_fits(number: Cell, support: Cell, highest: u32) -> bool
-    ensures { λ r. ⌜ r ≡ bitFits highest (lowBit support) number ⌝ }
+// Whether a bit number is in range where it is given, and given where it is required.
+fn bit_fits(number: Cell, required: bool, highest: u32) -> bool
+    ensures { λ r. ⌜ r ≡ bitFits highest required number ⌝ }
 {
     match number {
-        Cell::Absent => !low_bit(support),
+        Cell::Absent => !required,
         Cell::Given(n) => n <= highest,
     }
 }
 
-// Whether the three bit numbers of a feature fit: they are required where bit 0 of hv-support, os-support, usable-privilege is set.
+// Whether the three bit numbers of a feature fit: those of HFSCR and FSCR are required where bit 0 of hv-support, of os-support is set,
+// and that of a capability never.
 fn bits_fit(f: Feature) -> bool
     ensures { λ r. ⌜ r ≡ bitsFit f ⌝ }
 {
     if !bit_fits(
         cell_of(f, Property::HfscrBitNr),
-        cell_of(f, Property::HvSupport),
+        low_bit(cell_of(f, Property::HvSupport)),
         HIGHEST_HFSCR_BIT,
     ) {
         return false;
     }
     if !bit_fits(
         cell_of(f, Property::FscrBitNr),
-        cell_of(f, Property::OsSupport),
+        low_bit(cell_of(f, Property::OsSupport)),
         HIGHEST_FSCR_BIT,
     ) {
         return false;
     }
     bit_fits(
         cell_of(f, Property::HwcapBitNr),
-        cell_of(f, Property::UsablePrivilege),
+        false,
         HIGHEST_HWCAP_BIT,
     )
 }

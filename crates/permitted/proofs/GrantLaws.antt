@@ -14,7 +14,7 @@ use Rattle.record.specs.declared.Record.{Record}
 use Rattle.record.specs.declared.Cell.{Cell}
 use Rattle.record.specs.declared.Cell.the-variants.{Absent, Given}
 use Rattle.record.specs.declared.Property.the-variants.{UsablePrivilege, HvSupport, OsSupport, HfscrBitNr, FscrBitNr}
-use Rattle.permitted.specs.Permitted.{withIsa, isUsable, byRegister, isSupported, isSupportedBelow, isPermitted, permittedAt, permittedSet, system, hypervisor}
+use Rattle.permitted.specs.Permitted.{isUsable, byRegister, isSupported, isSupportedBelow, isPermitted, permittedAt, permittedSet, system, hypervisor}
 use Rattle.permitted.specs.declared.Grants.{Grants}
 use Rattle.permitted.proofs.PermittedLaws.{or-true, byPrivilege}
 
@@ -56,21 +56,14 @@ same-cells e f level g i s =
     && isSupportedBelow hypervisor level (s .hv-support k) (s .hfscr k) (g .hfscr) (has (g .hypervisor .words) i)
     && isSupportedBelow system level (s .os-support k) (s .fscr k) (g .fscr) (has (g .system .words) i)
 
--- a feature with another `isa`
-pub feature-isa-ignored : (f : Feature) (x level : ℕ) (g : Grants) (i : ℕ) → isPermitted (withIsa f x) level g i ≡ isPermitted f level g i
-unfolding cell held bitOf
-feature-isa-ignored f x level g i =
-    same-cells (withIsa f x) f level g i (record { privilege = refl; hv-support = refl; os-support = refl; hfscr = refl; fscr = refl })
-
-pub isa-ignored : (r s : Record) (level : ℕ) (g : Grants) → s .count ≡ r .count
-    → ((i : ℕ) → i < r .count → (x : ℕ) × (featureAt s i ≡ withIsa (featureAt r i) x)) → permittedSet s level g ≡ permittedSet r level g
+-- two records whose features agree in these have the same permitted set
+pub permits-same : (r s : Record) (level : ℕ) (g : Grants) → r .count ≡ s .count → ((i : ℕ) → i < r .count → SameCells (featureAt r i) (featureAt s i))
+    → permittedSet r level g ≡ permittedSet s level g
 unfolding permittedSet
-isa-ignored r s level g e a =
-    ap (λ (n : ℕ). collect setWords (min n mostFeatures) (permittedAt s level g)) e
-    ∙ collect-same setWords (min (r .count) mostFeatures) (permittedAt s level g) (permittedAt r level g)
-    (λ i l.
-    let other = a i (omega arith) in
-    ap (λ (f : Feature). isPermitted f level g i) (other .1) ∙ feature-isa-ignored (featureAt r i) (other .0) level g i)
+permits-same r s level g e a =
+    collect-same setWords (min (r .count) mostFeatures) (permittedAt r level g) (permittedAt s level g)
+    (λ i l. same-cells (featureAt r i) (featureAt s i) level g i (a i (omega arith)))
+    ∙ ap (λ (n : ℕ). collect setWords (min n mostFeatures) (permittedAt s level g)) e
 
 -- own code supports at any level, whatever the cells say
 own-supports : (support number : Cell) (mask : ℕ) → isSupported support number mask true ≡ true

@@ -7,18 +7,19 @@ use native.Mathlib.Numerals.{add-one}
 use native.Mathlib.Omega.{arith}
 use borrow.Author.Tests.{le-leb, lt-leb, leb-true, not-true}
 use lib.Dec.{leb}
-use Rattle.positions.proofs.BelowLaws.{no-way, and-left, and-right}
+use Rattle.positions.proofs.BelowLaws.{no-way}
 use Rattle.positions.specs.Bits.{bit}
 use Rattle.positions.specs.Sets.{setWords, room, has, collect, setOf, noMembers, withMember}
 use Rattle.positions.proofs.SetLaws.{collect-more}
 use Rattle.positions.proofs.MemberLaws.{insert-collect}
 use Rattle.positions.proofs.SetCodeLaws.{zero-words}
 use Rattle.record.specs.Cells.{bitOf, held, whenGiven, cell, lowBit}
-use Rattle.record.specs.Record.{mostFeatures, highestHfscrBit, highestFscrBit, highestHwcapBit}
+use Rattle.record.specs.Record.{mostFeatures, highestHfscrBit, highestFscrBit}
 use Rattle.form.specs.WellFormed.{bitFits, bitsFit}
+use Rattle.form.proofs.BitLaws.{fits-hypervisor, fits-system}
 use Rattle.record.specs.declared.Record.{Record}
 use Rattle.record.specs.declared.Feature.{Feature}
-use Rattle.record.specs.declared.Property.the-variants.{UsablePrivilege, HvSupport, OsSupport, HfscrBitNr, FscrBitNr, HwcapBitNr}
+use Rattle.record.specs.declared.Property.the-variants.{UsablePrivilege, HvSupport, OsSupport, HfscrBitNr, FscrBitNr}
 use Rattle.record.specs.declared.Cell.{Cell}
 use Rattle.record.specs.declared.Cell.the-variants.{Absent, Given}
 use Rattle.permitted.specs.Permitted.{system, hypervisor, isUsable, byRegister, isSupported, isSupportedBelow, isPermitted, permittedAt, permittedSet}
@@ -78,30 +79,13 @@ usable-by level e p = e ∙ ap (λ (y : Cell). isUsable y level) p
 
 -- the two registers' numbers of a feature whose bit numbers fit
 module _ (f : Feature) (fits : bitsFit f ≡ true) where
-  abbrev hv : Bool
-  hv = bitFits highestHfscrBit (lowBit (cell f HvSupport)) (cell f HfscrBitNr)
-
-  abbrev os : Bool
-  os = bitFits highestFscrBit (lowBit (cell f OsSupport)) (cell f FscrBitNr)
-
-  abbrev hwcap : Bool
-  hwcap = bitFits highestHwcapBit (lowBit (cell f UsablePrivilege)) (cell f HwcapBitNr)
-
-  hv-fits : hv ≡ true
-  unfolding bitsFit
-  hv-fits = and-left hv os (and-left (hv && os) hwcap fits)
-
-  os-fits : os ≡ true
-  unfolding bitsFit
-  os-fits = and-right hv os (and-left (hv && os) hwcap fits)
-
   pub hv-number : {a : Cell} → a ≡ cell f HvSupport → lowBit a ≡ true → f .«hfscr_bit_nr» < 64
   unfolding cell held bitOf
-  hv-number e q = let h = number-fits highestHfscrBit _ (bit (f .given) 4) (f .«hfscr_bit_nr») hv-fits (ap lowBit (sym e) ∙ q) in omega arith
+  hv-number e q = let h = number-fits highestHfscrBit _ (bit (f .given) 4) (f .«hfscr_bit_nr») (fits-hypervisor f fits) (ap lowBit (sym e) ∙ q) in omega arith
 
   pub os-number : {a : Cell} → a ≡ cell f OsSupport → lowBit a ≡ true → f .«fscr_bit_nr» < 64
   unfolding cell held bitOf
-  os-number e q = let h = number-fits highestFscrBit _ (bit (f .given) 5) (f .«fscr_bit_nr») os-fits (ap lowBit (sym e) ∙ q) in omega arith
+  os-number e q = let h = number-fits highestFscrBit _ (bit (f .given) 5) (f .«fscr_bit_nr») (fits-system f fits) (ap lowBit (sym e) ∙ q) in omega arith
 
   module _ (upper level mask : ℕ) (own : Bool) {u : Bool} {a : Cell} where
     pub hv-supported : u ≡ isSupportedBelow upper level a (Given (f .«hfscr_bit_nr»)) mask own → a ≡ cell f HvSupport
@@ -110,7 +94,7 @@ module _ (f : Feature) (fits : bitsFit f ≡ true) where
     hv-supported q e =
         q
         ∙ ap (λ (x : Cell). leb upper level || isSupported x (Given (f .«hfscr_bit_nr»)) mask own) e
-        ∙ ap (λ (b : Bool). leb upper level || b) (supported-same highestHfscrBit (cell f HvSupport) (bit (f .given) 4) (f .«hfscr_bit_nr») mask own hv-fits)
+        ∙ ap (λ (b : Bool). leb upper level || b) (supported-same highestHfscrBit (cell f HvSupport) (bit (f .given) 4) (f .«hfscr_bit_nr») mask own (fits-hypervisor f fits))
 
     pub os-supported : u ≡ isSupportedBelow upper level a (Given (f .«fscr_bit_nr»)) mask own → a ≡ cell f OsSupport
         → u ≡ isSupportedBelow upper level (cell f OsSupport) (cell f FscrBitNr) mask own
@@ -118,7 +102,7 @@ module _ (f : Feature) (fits : bitsFit f ≡ true) where
     os-supported q e =
         q
         ∙ ap (λ (x : Cell). leb upper level || isSupported x (Given (f .«fscr_bit_nr»)) mask own) e
-        ∙ ap (λ (b : Bool). leb upper level || b) (supported-same highestFscrBit (cell f OsSupport) (bit (f .given) 5) (f .«fscr_bit_nr») mask own os-fits)
+        ∙ ap (λ (b : Bool). leb upper level || b) (supported-same highestFscrBit (cell f OsSupport) (bit (f .given) 5) (f .«fscr_bit_nr») mask own (fits-system f fits))
 
 -- the first test that fails decides; the last one where the others hold
 module _ (f : Feature) (level : ℕ) (g : Grants) (i : ℕ) where

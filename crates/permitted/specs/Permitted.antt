@@ -58,19 +58,3 @@ permittedAt r level g i = isPermitted (featureAt r i) level g i
 -- the positions of the permitted features; a record has no more than 64
 unfoldable pub permittedSet : Record → ℕ → Grants → List ℕ
 permittedSet r level g = collect setWords (min (r .count) mostFeatures) (permittedAt r level g)
-
--- a feature with another `isa`
-abbrev pub withIsa : Feature → ℕ → Feature
-withIsa f x = record {
-  offset = f .offset;
-  given = f .given;
-  isa = x;
-  «usable_privilege» = f .«usable_privilege»;
-  «hv_support» = f .«hv_support»;
-  «os_support» = f .«os_support»;
-  «hfscr_bit_nr» = f .«hfscr_bit_nr»;
-  «fscr_bit_nr» = f .«fscr_bit_nr»;
-  «hwcap_bit_nr» = f .«hwcap_bit_nr»;
-  phandle = f .phandle;
-  dependencies = f .dependencies;
-}

@@ -12,9 +12,9 @@ use Rattle.feature.specs.declared.CellRead.{CellRead}
 use Rattle.feature.specs.Feature.{firstOf}
 use Rattle.feature.proofs.RefusalLaws.{first-left}
 use Rattle.nodes.specs.Values.{Value, number}
-use Rattle.reader.specs.Parts.{noCell, cellFault, Holds, CellIs, atMost, BitIs}
+use Rattle.reader.specs.Parts.{noCell, cellFault, Holds, CellIs, atMost, NumberIs, BitIs}
 use Rattle.reader.proofs.JudgedLaws.{judged-both}
-use Rattle.reader.proofs.PropertyLaws.{judged-pick, given-judged}
+use Rattle.reader.proofs.PropertyLaws.{judged-pick, form-judged, given-judged}
 
 -- a cell that is at most some number: its refusal, and its cell
 pub record Ranged (high : ℕ) (needed : Bool) (v : Value) (r : CellRead) : Type 0 where
@@ -42,6 +42,14 @@ module _ (high : ℕ) {needed : Bool} {v : Value} {c : CellRead} (h : CellIs nee
             cell = λ z. absurd (y (sym (h .fault) ∙ z));
             refused = λ _. n .0;
           })
+
+pub number-is : (highest : ℕ) {v : Value} {c r : CellRead} → CellIs false v c → r ≡ atMost highest c → NumberIs highest v r
+number-is highest {v} h q =
+    let g = ranged highest h q in
+    record {
+      judged = λ at. rw (g .fault) (judged-both _ _ (form-judged v at) (λ z. judged-pick (leb (number v) highest) 12 at (omega arith)));
+      cell = g .cell;
+    }
 
 pub bit-is : (highest : ℕ) {needed known : Bool} {v : Value} {c r : CellRead} → needed ≡ known → CellIs needed v c → r ≡ atMost highest c → BitIs highest known v r
 bit-is highest {needed} {known} {v} e h q =

@@ -55,7 +55,7 @@ below-begins nodes f p = record { within = omega arith; hold = λ j l. absurd (o
 
 few-here : (before : List Node) (n : Node) → AllHold (featureChecks before n) → length (cellsOf (valueOf n "dependencies")) ≤ mostDependencies
 unfolding featureChecks
-few-here before n h = leb-true _ _ (h .1 .1 .1 .1 .1 .1 .1 .1 .1 .1 .1 .1 .1 .1 .1 .1 .1 .0)
+few-here before n h = leb-true _ _ (h .1 .1 .1 .1 .1 .1 .1 .1 .1 .1 .1 .1 .1 .1 .1 .1 .0)
 
 module _ {tree : List ℕ} {b : Blocks} {fs : ChildPlaces} {nodes : List Node} (a : AtPlaces tree b fs nodes) where
   pub place-low : (i : ℕ) → i < fs .count → getD (fs .places) i noPlace .at ≤ largestTree

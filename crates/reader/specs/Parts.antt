@@ -32,7 +32,7 @@ use Rattle.feature.specs.declared.FeatureCells.{FeatureCells}
 use Rattle.reading.specs.Reading.{containerProperties, countChecks, recordOf}
 use Rattle.nodes.specs.Parts.{Alike, IsNode, AreNodes}
 use Rattle.nodes.specs.Values.{Value, missing, value, valueIn, valueOf, isGiven, number, cellsOf}
-use Rattle.reading.specs.Features.{inOrder, nameChecks, bitChecks, phandleChecks, dependenciesChecks, featureChecks, featureOf}
+use Rattle.reading.specs.Features.{inOrder, nameChecks, numberChecks, bitChecks, phandleChecks, dependenciesChecks, featureChecks, featureOf}
 use Rattle.reading.specs.Dependencies.{carrierChecks, Resolution, unknown, found, positionsOf, slotsOf}
 use Rattle.reading.specs.Ends.{AllHold, FirstFailing}
 use Rattle.reader.specs.declared.features.FeatureRead.{FeatureRead}
@@ -88,7 +88,11 @@ ArePhandles phandles nodes = phandles ≡ padded mostFeatures 0 (map notedOf nod
 abbrev pub AreFeatures : List Feature → List Node → Type 0
 AreFeatures features nodes = features ≡ padded mostFeatures noFeature (map featureOf nodes)
 
--- a bit number
+-- a bit number that may be missing, and one that may be needed
+pub record NumberIs (highest : ℕ) (v : Value) (r : CellRead) : Type 0 where
+  pub judged : (at : ℕ) → Judged (numberChecks at highest v) (numberOf (r .refusal)) at
+  pub cell : numberOf (r .refusal) ≡ 0 → Holds v r
+
 pub record BitIs (highest : ℕ) (needed : Bool) (v : Value) (r : CellRead) : Type 0 where
   pub judged : (at : ℕ) → Judged (bitChecks at highest needed v) (numberOf (r .refusal)) at
   pub cell : numberOf (r .refusal) ≡ 0 → Holds v r
@@ -107,7 +111,7 @@ pub record SupportIs (ts : List Token) (r : SupportCells) : Type 0 where
 pub record BitsAre (ts : List Token) (s : SupportCells) (r : BitCells) : Type 0 where
   pub hfscr : BitIs highestHfscrBit (bit (s .«hv_support» .number) 0) (valueIn (bytes "hfscr-bit-nr") ts) (r .«hfscr_bit_nr»)
   pub fscr : BitIs highestFscrBit (bit (s .«os_support» .number) 0) (valueIn (bytes "fscr-bit-nr") ts) (r .«fscr_bit_nr»)
-  pub hwcap : BitIs highestHwcapBit (bit (s .«usable_privilege» .number) 0) (valueIn (bytes "hwcap-bit-nr") ts) (r .«hwcap_bit_nr»)
+  pub hwcap : NumberIs highestHwcapBit (valueIn (bytes "hwcap-bit-nr") ts) (r .«hwcap_bit_nr»)
 
 pub record CellsAre (ts : List Token) (phandles : List ℕ) (n : ℕ) (r : FeatureCells) : Type 0 where
   pub isa : CellIs true (valueIn (bytes "isa") ts) (r .isa)

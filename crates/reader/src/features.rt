@@ -103,7 +103,7 @@ fn read_support(tree: &[u8], b: Blocks, first: usize) -> SupportCells
     }
 }
 
-// A feature's bit numbers, by its supports.
+// A feature's bit numbers: those of HFSCR and FSCR by its supports, that of a capability, which may be missing.
 fn read_bits(tree: &[u8], b: Blocks, first: usize, s: SupportCells) -> BitCells
     requires { ⌜ b .end ≤ length-of (now tree) ⌝ }
     ensures { λ r. ⌜ BitsAre (treeTokens (now (tree .entry)) b first) s r ⌝ }
@@ -125,12 +125,8 @@ fn read_bits(tree: &[u8], b: Blocks, first: usize, s: SupportCells) -> BitCells
             s.os_support,
             HIGHEST_FSCR_BIT,
         ),
-        hwcap_bit_nr: read_bit(
-            tree,
-            b,
-            first,
-            b"hwcap-bit-nr",
-            s.usable_privilege,
+        hwcap_bit_nr: at_most(
+            read_cell(tree, b, first, b"hwcap-bit-nr", false),
             HIGHEST_HWCAP_BIT,
         ),
     }

@@ -16,35 +16,31 @@ use Rattle.nodes.specs.Values.{Value, valueOf, isGiven, isCell, isCellOrMissing
 use Rattle.reading.specs.Features.{inOrder, some, nameChecks, featureChecks, isPhandle, isRepeated}
 use Rattle.reading.specs.Dependencies.{carrierChecks}
 use Rattle.reading.specs.Reading.{containersOf, containerChecks, containerProperties, countChecks, readChecks}
-use Rattle.reading.specs.Accepted.{checksOf, dependenciesOf, BitForm, FeatureForm, ContainerForm, Accepted}
+use Rattle.reading.specs.Accepted.{checksOf, dependenciesOf, NumberForm, FeatureForm, ContainerForm, Accepted}
 use Rattle.reading.proofs.Passed.{holds-true, holds-false, passes-order, passes-cell, passes-carriers}
 
 given-where : (required given : Bool) → T (either (not required) given) → required ≡ true → given ≡ true
 given-where true given h e = holds-true given h
 given-where false given h e = absurd (false≢true e)
 
-bit-form : (highest : ℕ) (support v : Value) → T (either (not (lowBit support)) (isGiven v)) → T (isCellOrMissing v) → T (leb (number v) highest) → BitForm highest support v
-bit-form highest support v g f r = record {
-  form = holds-true (isCellOrMissing v) f;
-  range = leb→le (number v) highest r;
-  required = given-where (lowBit support) (isGiven v) g;
-}
+number-form : (highest : ℕ) (v : Value) → T (isCellOrMissing v) → T (leb (number v) highest) → NumberForm highest v
+number-form highest v f r = record { form = holds-true (isCellOrMissing v) f; range = leb→le (number v) highest r }
 
 feature-form : (before : List Node) (n : Node) → Passes (nameChecks before n) → Passes (featureChecks before n) → FeatureForm before n
 unfolding featureChecks
 feature-form before n h p =
     let q = p .1 .1 .1 .1 in
-    let r = q .1 .1 .1 .1 .1 .1 .1 .1 .1 in
+    let r = q .1 .1 .1 .1 .1 .1 .1 .1 in
     record {
       isa = holds-true (isCell (valueOf n "isa")) (p .0);
       privilege = holds-true (isCell (valueOf n "usable-privilege")) (p .1 .0);
       hypervisor = holds-true (isCellOrMissing (valueOf n "hv-support")) (p .1 .1 .0);
       system = holds-true (isCellOrMissing (valueOf n "os-support")) (p .1 .1 .1 .0);
-      hfscr = bit-form highestHfscrBit (valueOf n "hv-support") (valueOf n "hfscr-bit-nr") (q .0) (q .1 .0) (q .1 .1 .0);
-      fscr = bit-form highestFscrBit (valueOf n "os-support") (valueOf n "fscr-bit-nr") (q .1 .1 .1 .0) (q .1 .1 .1 .1 .0) (q .1 .1 .1 .1 .1 .0);
-      hwcap =
-          bit-form highestHwcapBit (valueOf n "usable-privilege") (valueOf n "hwcap-bit-nr") (q .1 .1 .1 .1 .1 .1 .0) (q .1 .1 .1 .1 .1 .1 .1 .0)
-          (q .1 .1 .1 .1 .1 .1 .1 .1 .0);
+      hfscr = number-form highestHfscrBit (valueOf n "hfscr-bit-nr") (q .1 .0) (q .1 .1 .0);
+      fscr = number-form highestFscrBit (valueOf n "fscr-bit-nr") (q .1 .1 .1 .1 .0) (q .1 .1 .1 .1 .1 .0);
+      hwcap = number-form highestHwcapBit (valueOf n "hwcap-bit-nr") (q .1 .1 .1 .1 .1 .1 .0) (q .1 .1 .1 .1 .1 .1 .1 .0);
+      hfscrGiven = given-where (lowBit (valueOf n "hv-support")) (isGiven (valueOf n "hfscr-bit-nr")) (q .0);
+      fscrGiven = given-where (lowBit (valueOf n "os-support")) (isGiven (valueOf n "fscr-bit-nr")) (q .1 .1 .1 .0);
       phandle = holds-true (isCellOrMissing (valueOf n "phandle")) (r .0);
       phandleRange = holds-true (isPhandle (valueOf n "phandle")) (r .1 .0);
       phandleOnce = holds-false (isRepeated before (valueOf n "phandle")) (r .1 .1 .0);

@@ -20,10 +20,10 @@ use Rattle.walk.specs.declared.Layout.{Layout}
 use Rattle.walk.proofs.CheckEnds.{check-ends}
 use Rattle.nodes.specs.Nodes.{Node, nodeAt, children}
 use Rattle.nodes.specs.Values.{Value, valueOf, isGiven, number, lowBit}
-use Rattle.reading.specs.Features.{inOrder, nameChecks, requiredChecks, optionalChecks, bitChecks, phandleChecks, dependenciesChecks, featureChecks}
+use Rattle.reading.specs.Features.{inOrder, nameChecks, requiredChecks, optionalChecks, numberChecks, bitChecks, phandleChecks, dependenciesChecks, featureChecks}
 use Rattle.reading.specs.Dependencies.{isSomewhere, carrier, cellChecks, carrierChecks}
 use Rattle.reading.specs.Reading.{containersOf, containerChecks, containerProperties, countChecks, readChecks, recordOf, afterWalk, readRecord}
-use Rattle.reading.specs.Accepted.{containerOf, checksOf, dependenciesOf, BitForm, FeatureForm, ContainerForm, Accepted}
+use Rattle.reading.specs.Accepted.{containerOf, checksOf, dependenciesOf, NumberForm, GivenWhere, FeatureForm, ContainerForm, Accepted}
 use Rattle.reading.proofs.Ends.{read-accepted}
 
 true-holds : {b : Bool} → b ≡ true → T b
@@ -62,9 +62,11 @@ where-given : (required given : Bool) → (required ≡ true → given ≡ true)
 where-given true given f = true-holds (f refl)
 where-given false given f = tt
 
-bit-passes : (at highest : ℕ) (support v : Value) → BitForm highest support v → Passes (bitChecks at highest (lowBit support) v)
-bit-passes at highest support v f =
-    (where-given (lowBit support) (isGiven v) (f .required), (true-holds (f .form), (le→leb (number v) highest (f .range), tt)))
+number-passes : (at highest : ℕ) (v : Value) → NumberForm highest v → Passes (numberChecks at highest v)
+number-passes at highest v f = (true-holds (f .form), (le→leb (number v) highest (f .range), tt))
+
+bit-passes : (at highest : ℕ) (support v : Value) → NumberForm highest v → GivenWhere support v → Passes (bitChecks at highest (lowBit support) v)
+bit-passes at highest support v f g = (where-given (lowBit support) (isGiven v) g, number-passes at highest v f)
 
 abbrev frontChecks : Node → List (Check Fault)
 frontChecks n =
@@ -78,12 +80,12 @@ feature-passes : (before : List Node) (n : Node) → FeatureForm before n → Pa
 unfolding featureChecks
 feature-passes before n f =
     let fscr = bitChecks (n .at) highestFscrBit (lowBit (valueOf n "os-support")) (valueOf n "fscr-bit-nr") in
-    let hwcap = bitChecks (n .at) highestHwcapBit (lowBit (valueOf n "usable-privilege")) (valueOf n "hwcap-bit-nr") in
+    let hwcap = numberChecks (n .at) highestHwcapBit (valueOf n "hwcap-bit-nr") in
     let phandle = phandleChecks (n .at) before (valueOf n "phandle") in
     let dependencies = dependenciesChecks (n .at) (valueOf n "dependencies") in
-    let h = bit-passes (n .at) _ (valueOf n "hv-support") (valueOf n "hfscr-bit-nr") (f .hfscr) in
-    let s = bit-passes (n .at) _ (valueOf n "os-support") (valueOf n "fscr-bit-nr") (f .fscr) in
-    let w = bit-passes (n .at) _ (valueOf n "usable-privilege") (valueOf n "hwcap-bit-nr") (f .hwcap) in
+    let h = bit-passes (n .at) _ (valueOf n "hv-support") (valueOf n "hfscr-bit-nr") (f .hfscr) (f .hfscrGiven) in
+    let s = bit-passes (n .at) _ (valueOf n "os-support") (valueOf n "fscr-bit-nr") (f .fscr) (f .fscrGiven) in
+    let w = number-passes (n .at) _ (valueOf n "hwcap-bit-nr") (f .hwcap) in
     let p : Passes phandle = (true-holds (f .phandle), (true-holds (f .phandleRange), (false-holds (f .phandleOnce), tt))) in
     let d : Passes dependencies = (true-holds (f .dependencies), (le→leb (length (dependenciesOf n)) mostDependencies (f .few), tt)) in
     let front : Passes (frontChecks n) = (true-holds (f .isa), (true-holds (f .privilege), (true-holds (f .hypervisor), (true-holds (f .system), h)))) in

@@ -17,9 +17,8 @@ use Rattle.record.specs.declared.Property.the-variants.{Phandle}
 use Rattle.record.specs.declared.Cell.the-variants.{Given}
 use Rattle.nodes.specs.Nodes.{Node, node, nodeAt}
 use Rattle.nodes.specs.Values.{Value, missing, value, valueOf, number}
-use Rattle.reading.specs.Features.{some, isCarried, carries, isRepeated}
+use Rattle.reading.specs.Features.{some, isCarried, carries, isRepeated, cellOf, cellIn}
 use Rattle.reading.specs.Dependencies.{carriesAt, carrier, isSomewhere}
-use Rattle.reading.specs.Resolved.{cellOf, cellIn}
 
 -- the node at an index
 abbrev nothing : Node

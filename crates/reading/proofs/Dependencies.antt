@@ -12,14 +12,14 @@ use Rattle.record.specs.declared.Feature.{Feature}
 use Rattle.record.specs.declared.Property.{Property}
 use Rattle.record.specs.declared.Property.the-variants.{Phandle}
 use Rattle.record.specs.Record.{featureAt, slotAt}
-use Rattle.record.specs.Cells.{cell, dependencyCount}
+use Rattle.record.specs.Cells.{cell, dependencyCount, featureWith}
 use Rattle.nodes.specs.Nodes.{Node, nodeAt, children}
 use Rattle.nodes.specs.Values.{valueOf, number}
-use Rattle.reading.specs.Features.{featureOf, carries}
+use Rattle.reading.specs.Features.{featureOf, cellIn, carries}
 use Rattle.reading.specs.Dependencies.{carrier, isSomewhere}
 use Rattle.reading.specs.Reading.{recordWith, recordBy, recordOf, readRecord}
 use Rattle.reading.specs.Accepted.{containerOf, featuresOf, dependenciesOf, FeatureForm, ContainerForm}
-use Rattle.reading.specs.Resolved.{cellIn, Holds, Zeroed, Resolved}
+use Rattle.reading.specs.Resolved.{Holds, Zeroed, Resolved}
 use Rattle.reading.proofs.Cells.{cell-read, count-read}
 use Rattle.reading.proofs.Carriers.{node-split, carries-phandle, phandle-carries, carrier-carries, not-twice}
 use Rattle.reading.proofs.Resolutions.{somewhere-at}
@@ -36,7 +36,7 @@ module _ (c : Node) (slots : List ℕ) where
   held-cell i h p = ap (λ (f : Feature). cell f p) (feature-at c slots i h) ∙ cell-read (nodeAt (children c) i) p
 
   held-offset : (i : ℕ) → i < length (children c) → featureAt (recordWith c slots) i .offset ≡ nodeAt (children c) i .at
-  unfolding featureOf
+  unfolding featureOf featureWith
   held-offset i h = ap (λ (f : Feature). f .offset) (feature-at c slots i h)
 
   record-isa : recordWith c slots .isa ≡ number (valueOf c "isa")

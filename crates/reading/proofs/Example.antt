@@ -15,7 +15,8 @@ use Rattle.walk.specs.Walk.{step, walk}
 use Rattle.walk.specs.Containers.{containerOffsets, firstTwo}
 use Rattle.positions.specs.Bits.{bit}
 use Rattle.positions.specs.Below.{firstThat}
-use Rattle.reading.specs.Features.{inOrder, some, featureChecks, givenWord, featureOf}
+use Rattle.record.specs.Cells.{wordOfBits, featureWith}
+use Rattle.reading.specs.Features.{inOrder, some, featureChecks, cellIn, featureOf}
 use Rattle.reading.specs.Reading.{readChecks, recordWith, recordOf, readRecord}
 use Rattle.reading.specs.Example.{exampleTree, exampleRecord}
 use Rattle.reading.specs.Dependencies.{cellChecks, carrierChecks, positionsOf, slotsOf}
@@ -23,5 +24,5 @@ use Rattle.nodes.specs.Values.{valueIn}
 use Rattle.nodes.specs.Nodes.{nodeAt, nodesNamed, childrenAt}
 
 pub example-read : readRecord exampleTree ≡ placed exampleRecord
-unfolding firstFault isNodeCharacter isPropertyCharacter cellAt textOf textAt sameBytes isString every atSigns firstIsPlain lastIsPlain nodeCharacters isNodeName isPropertyName isRootName sameText blockChecks headerChecks blocksOf header tokensFrom tokens padded propertyAt stepAt nameAt among layoutOf checkTree step walk containerOffsets firstTwo bit firstThat inOrder some featureChecks givenWord featureOf nodeAt readChecks recordWith recordOf readRecord exampleTree exampleRecord cellChecks carrierChecks positionsOf slotsOf valueIn nodesNamed childrenAt
+unfolding firstFault isNodeCharacter isPropertyCharacter cellAt textOf textAt sameBytes isString every atSigns firstIsPlain lastIsPlain nodeCharacters isNodeName isPropertyName isRootName sameText blockChecks headerChecks blocksOf header tokensFrom tokens padded propertyAt stepAt nameAt among layoutOf checkTree step walk containerOffsets firstTwo bit firstThat inOrder some featureChecks cellIn wordOfBits featureWith featureOf nodeAt readChecks recordWith recordOf readRecord exampleTree exampleRecord cellChecks carrierChecks positionsOf slotsOf valueIn nodesNamed childrenAt
 example-read = refl

@@ -7,7 +7,7 @@ use Rattle.refusal.specs.Checks.{Check}
 use Rattle.record.specs.Record.{highestHfscrBit, highestFscrBit, highestHwcapBit, mostFeatures}
 use Rattle.nodes.specs.Nodes.{Node, nodeAt, children}
 use Rattle.nodes.specs.Values.{valueOf, lowBit}
-use Rattle.reading.specs.Features.{inOrder, nameChecks, requiredChecks, optionalChecks, bitChecks, phandleChecks, dependenciesChecks, featureChecks}
+use Rattle.reading.specs.Features.{inOrder, nameChecks, requiredChecks, optionalChecks, numberChecks, bitChecks, phandleChecks, dependenciesChecks, featureChecks}
 use Rattle.reading.specs.Dependencies.{cellChecks, carrierChecks}
 use Rattle.reading.specs.Reading.{containerProperties, containerChecks, countChecks, readChecks}
 use Rattle.reading.specs.Accepted.{dependenciesOf}
@@ -47,7 +47,7 @@ module _ (limit : ℕ) where
       ++ bitChecks at highestHfscrBit (lowBit (valueOf n "hv-support")) (valueOf n "hfscr-bit-nr")
       ++ bitChecks at highestFscrBit (lowBit (valueOf n "os-support")) (valueOf n "fscr-bit-nr") in
       let back =
-      bitChecks at highestHwcapBit (lowBit (valueOf n "usable-privilege")) (valueOf n "hwcap-bit-nr")
+      numberChecks at highestHwcapBit (valueOf n "hwcap-bit-nr")
       ++ phandleChecks at before (valueOf n "phandle")
       ++ dependenciesChecks at (valueOf n "dependencies") in
       let f : Numbered front = omega arith in

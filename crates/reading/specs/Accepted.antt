@@ -30,11 +30,14 @@ checksOf tree = readChecks (blocksOf tree .start) (containersOf tree (blocksOf t
 abbrev pub dependenciesOf : Node → List ℕ
 dependenciesOf n = cellsOf (valueOf n "dependencies")
 
--- "0 to 63; required where that bit 0 is set"
-pub record BitForm (highest : ℕ) (support v : Value) : Type 0 where
+-- a bit number, which may be missing: "0 to 63"
+pub record NumberForm (highest : ℕ) (v : Value) : Type 0 where
   pub form : isCellOrMissing v ≡ true
   pub range : number v ≤ highest
-  pub required : lowBit support ≡ true → isGiven v ≡ true
+
+-- "required where that bit 0 is set"
+abbrev pub GivenWhere : Value → Value → Type 0
+GivenWhere support v = lowBit support ≡ true → isGiven v ≡ true
 
 -- a feature behind others: its properties are of the right form, and neither its name nor its phandle is one of theirs
 pub record FeatureForm (before : List Node) (n : Node) : Type 0 where
@@ -42,9 +45,12 @@ pub record FeatureForm (before : List Node) (n : Node) : Type 0 where
   pub privilege : isCell (valueOf n "usable-privilege") ≡ true
   pub hypervisor : isCellOrMissing (valueOf n "hv-support") ≡ true
   pub system : isCellOrMissing (valueOf n "os-support") ≡ true
-  pub hfscr : BitForm highestHfscrBit (valueOf n "hv-support") (valueOf n "hfscr-bit-nr")
-  pub fscr : BitForm highestFscrBit (valueOf n "os-support") (valueOf n "fscr-bit-nr")
-  pub hwcap : BitForm highestHwcapBit (valueOf n "usable-privilege") (valueOf n "hwcap-bit-nr")
+  pub hfscr : NumberForm highestHfscrBit (valueOf n "hfscr-bit-nr")
+  pub fscr : NumberForm highestFscrBit (valueOf n "fscr-bit-nr")
+  -- (A2) "the binding lets older features lack it"
+  pub hwcap : NumberForm highestHwcapBit (valueOf n "hwcap-bit-nr")
+  pub hfscrGiven : GivenWhere (valueOf n "hv-support") (valueOf n "hfscr-bit-nr")
+  pub fscrGiven : GivenWhere (valueOf n "os-support") (valueOf n "fscr-bit-nr")
   pub phandle : isCellOrMissing (valueOf n "phandle") ≡ true
   pub phandleRange : isPhandle (valueOf n "phandle") ≡ true
   pub phandleOnce : isRepeated before (valueOf n "phandle") ≡ false

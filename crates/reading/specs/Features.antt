@@ -1,5 +1,5 @@
 -- The features: their names and their properties (document 01, "The feature record").
-use Prim.Native.Nat.{ℕ, _+_, _*_}
+use Prim.Native.Nat.{ℕ}
 use mathlib.Core.Bool.{Bool, true, false, not}
 use mathlib.Core.List.{List, [], _∷_, _++_}
 use lib.Dec.{leb, eqb}
@@ -8,8 +8,12 @@ use Rattle.refusal.specs.Refusal.{Fault, fault}
 use Rattle.refusal.specs.Checks.{Check, check}
 use Rattle.names.specs.Names.{sameText, either}
 use Rattle.record.specs.declared.Feature.{Feature}
+use Rattle.record.specs.declared.Property.{Property}
+use Rattle.record.specs.declared.Property.the-variants.{Isa, UsablePrivilege, HvSupport, OsSupport, HfscrBitNr, FscrBitNr, HwcapBitNr, Phandle, Dependencies}
+use Rattle.record.specs.declared.Cell.{Cell}
+use Rattle.record.specs.declared.Cell.the-variants.{Absent, Given}
 use Rattle.record.specs.Record.{highestHfscrBit, highestFscrBit, highestHwcapBit, mostDependencies}
-use Rattle.positions.specs.Below.{oneIf}
+use Rattle.record.specs.Cells.{featureWith}
 use Rattle.nodes.specs.Nodes.{Node}
 use Rattle.nodes.specs.Values.{Value, missing, value, valueOf, isGiven, isCell, isCellOrMissing, isCells, number, lowBit, cellsOf}
 
@@ -53,13 +57,13 @@ requiredChecks at v = check (isCell v) (fault 11 at) ∷ []
 abbrev pub optionalChecks : ℕ → Value → List (Check Fault)
 optionalChecks at v = check (isCellOrMissing v) (fault 11 at) ∷ []
 
--- "0 to 63; required where that bit 0 is set"; "length before range"
+-- `hwcap-bit-nr`: "0 to 63"; "length before range"; a missing one is no refusal (A2)
+abbrev pub numberChecks : ℕ → ℕ → Value → List (Check Fault)
+numberChecks at highest v = check (isCellOrMissing v) (fault 11 at) ∷ check (leb (number v) highest) (fault 12 at) ∷ []
+
+-- `hfscr-bit-nr`, `fscr-bit-nr`: the same, "required where that bit 0 is set"
 abbrev pub bitChecks : ℕ → ℕ → Bool → Value → List (Check Fault)
-bitChecks at highest required v =
-    check (either (not required) (isGiven v)) (fault 11 at)
-    ∷ check (isCellOrMissing v) (fault 11 at)
-    ∷ check (leb (number v) highest) (fault 12 at)
-    ∷ []
+bitChecks at highest required v = check (either (not required) (isGiven v)) (fault 11 at) ∷ numberChecks at highest v
 
 -- "optional, one cell, neither 0 nor all ones; one that an earlier feature carries is 9"
 abbrev pub phandleChecks : ℕ → List Node → Value → List (Check Fault)
@@ -79,38 +83,31 @@ featureChecks before n =
     ++ optionalChecks (n .at) (valueOf n "os-support")
     ++ bitChecks (n .at) highestHfscrBit (lowBit (valueOf n "hv-support")) (valueOf n "hfscr-bit-nr")
     ++ bitChecks (n .at) highestFscrBit (lowBit (valueOf n "os-support")) (valueOf n "fscr-bit-nr")
-    ++ bitChecks (n .at) highestHwcapBit (lowBit (valueOf n "usable-privilege")) (valueOf n "hwcap-bit-nr")
+    ++ numberChecks (n .at) highestHwcapBit (valueOf n "hwcap-bit-nr")
     ++ phandleChecks (n .at) before (valueOf n "phandle")
     ++ dependenciesChecks (n .at) (valueOf n "dependencies")
 
--- "which properties were given", a bit for each, the first the lowest
-unfoldable pub givenWord : List Value → ℕ
-givenWord [] = 0
-givenWord (v ∷ vs) = oneIf (isGiven v) + 2 * givenWord vs
+-- what a node has of a property of one cell, and of its dependencies: how many
+abbrev pub cellOf : Value → Cell
+cellOf missing = Absent
+cellOf (value bs) = Given (number (value bs))
+
+abbrev pub countOf : Value → Cell
+countOf missing = Absent
+countOf (value bs) = Given (length (cellsOf (value bs)))
+
+-- its cells: "Absent and zero differ"
+unfoldable pub cellIn : Node → Property → Cell
+cellIn n Isa = cellOf (valueOf n "isa")
+cellIn n UsablePrivilege = cellOf (valueOf n "usable-privilege")
+cellIn n HvSupport = cellOf (valueOf n "hv-support")
+cellIn n OsSupport = cellOf (valueOf n "os-support")
+cellIn n HfscrBitNr = cellOf (valueOf n "hfscr-bit-nr")
+cellIn n FscrBitNr = cellOf (valueOf n "fscr-bit-nr")
+cellIn n HwcapBitNr = cellOf (valueOf n "hwcap-bit-nr")
+cellIn n Phandle = cellOf (valueOf n "phandle")
+cellIn n Dependencies = countOf (valueOf n "dependencies")
 
 -- "its begin token's offset, its cells as read and which properties were given"
 unfoldable pub featureOf : Node → Feature
-featureOf n = record {
-  offset = n .at;
-  given =
-      givenWord
-      (valueOf n "isa"
-      ∷ valueOf n "usable-privilege"
-      ∷ valueOf n "hv-support"
-      ∷ valueOf n "os-support"
-      ∷ valueOf n "hfscr-bit-nr"
-      ∷ valueOf n "fscr-bit-nr"
-      ∷ valueOf n "hwcap-bit-nr"
-      ∷ valueOf n "phandle"
-      ∷ valueOf n "dependencies"
-      ∷ []);
-  isa = number (valueOf n "isa");
-  «usable_privilege» = number (valueOf n "usable-privilege");
-  «hv_support» = number (valueOf n "hv-support");
-  «os_support» = number (valueOf n "os-support");
-  «hfscr_bit_nr» = number (valueOf n "hfscr-bit-nr");
-  «fscr_bit_nr» = number (valueOf n "fscr-bit-nr");
-  «hwcap_bit_nr» = number (valueOf n "hwcap-bit-nr");
-  phandle = number (valueOf n "phandle");
-  dependencies = length (cellsOf (valueOf n "dependencies"));
-}
+featureOf n = featureWith (n .at) (cellIn n)

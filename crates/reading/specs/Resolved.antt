@@ -5,35 +5,14 @@ use mathlib.Core.List.{List}
 use lib.ListN.{length, getD}
 use Rattle.record.specs.declared.Record.{Record}
 use Rattle.record.specs.declared.Property.{Property}
-use Rattle.record.specs.declared.Property.the-variants.{Isa, UsablePrivilege, HvSupport, OsSupport, HfscrBitNr, FscrBitNr, HwcapBitNr, Phandle, Dependencies}
-use Rattle.record.specs.declared.Cell.{Cell}
-use Rattle.record.specs.declared.Cell.the-variants.{Absent, Given}
+use Rattle.record.specs.declared.Property.the-variants.{Phandle}
+use Rattle.record.specs.declared.Cell.the-variants.{Given}
 use Rattle.record.specs.Record.{mostFeatures, mostDependencies, slotCount, noFeature, featureAt, slotAt}
 use Rattle.record.specs.Cells.{cell, dependencyCount}
 use Rattle.nodes.specs.Nodes.{Node, nodeAt, children}
-use Rattle.nodes.specs.Values.{Value, missing, value, valueOf, number, cellsOf}
+use Rattle.nodes.specs.Values.{valueOf, number}
+use Rattle.reading.specs.Features.{cellIn}
 use Rattle.reading.specs.Accepted.{dependenciesOf}
-
--- "Absent and zero differ"
-abbrev pub cellOf : Value → Cell
-cellOf missing = Absent
-cellOf (value bs) = Given (number (value bs))
-
-abbrev pub countOf : Value → Cell
-countOf missing = Absent
-countOf (value bs) = Given (length (cellsOf (value bs)))
-
--- what a node has of each property: its cell; of the dependencies, how many
-unfoldable pub cellIn : Node → Property → Cell
-cellIn n Isa = cellOf (valueOf n "isa")
-cellIn n UsablePrivilege = cellOf (valueOf n "usable-privilege")
-cellIn n HvSupport = cellOf (valueOf n "hv-support")
-cellIn n OsSupport = cellOf (valueOf n "os-support")
-cellIn n HfscrBitNr = cellOf (valueOf n "hfscr-bit-nr")
-cellIn n FscrBitNr = cellOf (valueOf n "fscr-bit-nr")
-cellIn n HwcapBitNr = cellOf (valueOf n "hwcap-bit-nr")
-cellIn n Phandle = cellOf (valueOf n "phandle")
-cellIn n Dependencies = countOf (valueOf n "dependencies")
 
 -- "The record also holds the container's `isa` and, for each feature, its begin token's offset, its cells as read and which properties
 -- were given"

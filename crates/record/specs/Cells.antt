@@ -1,7 +1,9 @@
 -- The one view of a feature's cells: "Absent and zero differ" (document 01, "The feature record").
-use Prim.Native.Nat.{ℕ}
+use Prim.Native.Nat.{ℕ, _+_, _*_}
 use mathlib.Core.Bool.{Bool, true, false}
+use mathlib.Core.List.{List, [], _∷_, map}
 use Rattle.positions.specs.Bits.{bit}
+use Rattle.positions.specs.Below.{oneIf}
 use Rattle.record.specs.declared.Feature.{Feature}
 use Rattle.record.specs.declared.Property.{Property}
 use Rattle.record.specs.declared.Property.the-variants.{Isa, UsablePrivilege, HvSupport, OsSupport, HfscrBitNr, FscrBitNr, HwcapBitNr, Phandle, Dependencies}
@@ -45,10 +47,46 @@ abbrev pub lowBit : Cell → Bool
 lowBit Absent = false
 lowBit (Given n) = bit n 0
 
--- how many dependencies a feature has
+-- whether a cell is given
+abbrev pub givenIn : Cell → Bool
+givenIn Absent = false
+givenIn (Given n) = true
+
+-- the number of a cell; zero where it is absent
 abbrev pub numberIn : Cell → ℕ
 numberIn Absent = 0
 numberIn (Given n) = n
 
+-- how many dependencies a feature has
 unfoldable pub dependencyCount : Feature → ℕ
 dependencyCount f = numberIn (cell f Dependencies)
+
+-- the properties, "in this property order"
+abbrev pub allProperties : List Property
+allProperties =
+    Isa ∷ UsablePrivilege ∷ HvSupport ∷ OsSupport ∷ HfscrBitNr ∷ FscrBitNr ∷ HwcapBitNr ∷ Phandle ∷ Dependencies ∷ []
+
+-- the word of some bits, the first the lowest
+unfoldable pub wordOfBits : List Bool → ℕ
+wordOfBits [] = 0
+wordOfBits (b ∷ bs) = oneIf b + 2 * wordOfBits bs
+
+-- "which properties were given": the bit of each is set where its cell is given
+abbrev pub givenWord : (Property → Cell) → ℕ
+givenWord cells = wordOfBits (map (λ (p : Property). givenIn (cells p)) allProperties)
+
+-- the feature at an offset whose cells are these, zero where one is absent
+unfoldable pub featureWith : ℕ → (Property → Cell) → Feature
+featureWith at cells = record {
+  offset = at;
+  given = givenWord cells;
+  isa = numberIn (cells Isa);
+  «usable_privilege» = numberIn (cells UsablePrivilege);
+  «hv_support» = numberIn (cells HvSupport);
+  «os_support» = numberIn (cells OsSupport);
+  «hfscr_bit_nr» = numberIn (cells HfscrBitNr);
+  «fscr_bit_nr» = numberIn (cells FscrBitNr);
+  «hwcap_bit_nr» = numberIn (cells HwcapBitNr);
+  phandle = numberIn (cells Phandle);
+  dependencies = numberIn (cells Dependencies);
+}

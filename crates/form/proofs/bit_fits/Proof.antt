@@ -8,9 +8,6 @@ use Rattle.form.proofs.bit_fits.Tie as tie
 enum-told : tie.Need-enum-told
 enum-told c = search needs
 
-low-bit-requires : tie.Need-low-bit-requires
-low-bit-requires c κs = search needs
-
 enum-known-number : tie.Need-enum-known-number
 enum-known-number c = search needs
 
@@ -21,4 +18,4 @@ returns-2 : tie.Need-returns-2
 returns-2 c = ap (bitFits _ _) (sym (c .before .number .given .1))
 
 pub bit-fits-spec : {M : Type 1} → statement M
-bit-fits-spec = tie.close (tie.spec enum-told low-bit-requires enum-known-number returns returns-2)
+bit-fits-spec = tie.close (tie.spec enum-told enum-known-number returns returns-2)

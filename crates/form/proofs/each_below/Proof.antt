@@ -5,7 +5,7 @@ use mathlib.Core.Bool.{true}
 use native.Mathlib.Omega.{arith}
 use borrow.Author.Needs.{needs}
 use Rattle.positions.specs.Below.{every}
-use Rattle.form.specs.Slots.{slotBelow}
+use Rattle.form.specs.WellFormed.{slotBelow}
 use Rattle.form.proofs.FormedLaws.{below-next, below-not, below-all}
 use Rattle.form.proofs.each_below.Statement.{statement}
 use Rattle.form.proofs.each_below.Tie as tie

@@ -8,8 +8,7 @@ use borrow.Author.Tests.{not-true, not-false}
 use Rattle.positions.specs.Below.{every}
 use Rattle.positions.proofs.BelowLaws.{every-more}
 use Rattle.record.specs.Record.{mostFeatures}
-use Rattle.form.specs.WellFormed.{featureFits}
-use Rattle.form.specs.Slots.{slotsFit}
+use Rattle.form.specs.WellFormed.{slotsFit, featureFits}
 use Rattle.form.proofs.FormedLaws.{fits-both, formed-many, formed-bits, formed-slots, formed-all}
 use Rattle.form.proofs.well_formed.Statement.{statement}
 use Rattle.form.proofs.well_formed.Tie as tie
