@@ -51,11 +51,7 @@ fn bits_fit(f: Feature) -> bool
     ) {
         return false;
     }
-    bit_fits(
-        cell_of(f, Property::HwcapBitNr),
-        false,
-        HIGHEST_HWCAP_BIT,
-    )
+    bit_fits(cell_of(f, Property::HwcapBitNr), false, HIGHEST_HWCAP_BIT)
 }
 
 fn wide(x: u16) -> u32
