@@ -6,7 +6,7 @@
 #include "resolver.h"
 #include "timing.h"
 
-enum { RUNS = 401, NANOSECONDS_A_RUN = 40000 };
+enum { RUNS = 401, NANOSECONDS_A_RUN = 40000, REFUSED = 6, WITHOUT_CAPABILITY_BIT = 4 };
 
 struct graph {
     const char *name;
@@ -116,10 +116,10 @@ static void compare(struct graph *t)
     }
 }
 
-/* The same of records that are not well formed, each by one fault. */
+/* The same of records that are not well formed, each by one fault: the last two lack a register's bit number where it is required. */
 static void compare_refused(const struct graph *t)
 {
-    for (int fault = 0; fault < 5; fault++) {
+    for (int fault = 0; fault < REFUSED; fault++) {
         struct graph x = *t;
         YebkuzanFeature *f = &x.r.features[21];
         switch (fault) {
@@ -127,10 +127,27 @@ static void compare_refused(const struct graph *t)
         case 1: f->dependencies = YEBKUZAN_MOST_DEPENDENCIES + 1; break;
         case 2: x.r.slots[YEBKUZAN_MOST_DEPENDENCIES * 21] = (uint16_t)x.r.count; break;
         case 3: f->hwcap_bit_nr = 64; break;
-        case 4: f->given &= ~(uint32_t)YEBKUZAN_GIVEN_HWCAP_BIT_NR; break;
+        case 4: f->given = (f->given | YEBKUZAN_GIVEN_HV_SUPPORT) & ~(uint32_t)YEBKUZAN_GIVEN_HFSCR_BIT_NR; break;
+        case 5: f->given = (f->given | YEBKUZAN_GIVEN_OS_SUPPORT) & ~(uint32_t)YEBKUZAN_GIVEN_FSCR_BIT_NR; break;
         }
         if (c_well_formed(&x.r) != 14)
             fail(t, "refusal");
+        compare(&x);
+    }
+}
+
+/* The same of records with a user feature that has no capability bit, whatever number stands in its cell: these are well formed. */
+static void compare_without_capability_bit(const struct graph *t)
+{
+    static const uint32_t numbers[WITHOUT_CAPABILITY_BIT] = { 0, 63, 64, UINT32_MAX };
+
+    for (int k = 0; k < WITHOUT_CAPABILITY_BIT; k++) {
+        struct graph x = *t;
+        YebkuzanFeature *f = &x.r.features[21];
+        f->given &= ~(uint32_t)YEBKUZAN_GIVEN_HWCAP_BIT_NR;
+        f->hwcap_bit_nr = numbers[k];
+        if (c_well_formed(&x.r) != 0)
+            fail(t, "acceptance");
         compare(&x);
     }
 }
@@ -249,8 +266,9 @@ int main(void)
     for (size_t i = 0; i < n; i++)
         compare(graphs[i]);
     compare_refused(graphs[n - 1]);
+    compare_without_capability_bit(graphs[n - 1]);
     printf("answers: the library's are those of C on every graph, at each level, for each position and each length of the buffer,\n");
-    printf("         and on five records that are not well formed\n");
+    printf("         on %d records that are not well formed, and on %d without a capability bit\n", REFUSED, WITHOUT_CAPABILITY_BIT);
     printf("buffers: not cleared between calls; caches warm\n");
     printf("figures: medians of %d runs in turn, nanoseconds a call; C with a test of the record's form, and without\n\n", RUNS);
     printf("%-26s%-14s%9s%9s%9s%9s%9s%7s\n", "graph", "call", "Rattle", "C test", "C no", "R/test", "R/no", "goal");

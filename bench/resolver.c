@@ -16,7 +16,7 @@ static bool member(uint64_t s, uint32_t i)
     return (s >> i & 1) != 0;
 }
 
-/* A bit number is in range where given, and given where bit 0 of its support is set. */
+/* A register's bit number is in range where given, and given where bit 0 of its support is set. */
 static bool bit_fits(const YebkuzanFeature *f, uint32_t support, uint32_t value, uint32_t property, uint32_t number)
 {
     if (given(f, property))
@@ -31,8 +31,7 @@ static bool feature_fits(const YebkuzanRecord *r, uint32_t i)
 
     if (!bit_fits(f, YEBKUZAN_GIVEN_HV_SUPPORT, f->hv_support, YEBKUZAN_GIVEN_HFSCR_BIT_NR, f->hfscr_bit_nr)
         || !bit_fits(f, YEBKUZAN_GIVEN_OS_SUPPORT, f->os_support, YEBKUZAN_GIVEN_FSCR_BIT_NR, f->fscr_bit_nr)
-        || !bit_fits(f, YEBKUZAN_GIVEN_USABLE_PRIVILEGE, f->usable_privilege, YEBKUZAN_GIVEN_HWCAP_BIT_NR, f->hwcap_bit_nr)
-        || n > YEBKUZAN_MOST_DEPENDENCIES)
+        || (given(f, YEBKUZAN_GIVEN_HWCAP_BIT_NR) && f->hwcap_bit_nr > 63) || n > YEBKUZAN_MOST_DEPENDENCIES)
         return false;
     for (uint32_t j = 0; j < n; j++)
         if (r->slots[YEBKUZAN_MOST_DEPENDENCIES * i + j] >= r->count)

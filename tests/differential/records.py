@@ -53,12 +53,20 @@ def with_needs(chance, one, needs):
     return one, needs + unused
 
 
+def permitted_feature(chance):
+    """A feature that is permitted at all levels; half of them have no capability bit, whatever stands in its cell."""
+    if chance.below(2):
+        return feature(usable_privilege=7, hwcap_bit_nr=chance.below(64))[0]
+    number = chance.choice((0, 63, 64, chance.below(64), chance_cell(chance)))
+    return feature(usable_privilege=7, not_given={"hwcap_bit_nr": number})[0]
+
+
 class Records:
     """Makes records of the features of a pool."""
 
     def __init__(self, chance):
         self.mixed = [chance_feature(chance, [])[0] for _ in range(200)]
-        self.permitted = [feature(usable_privilege=7, hwcap_bit_nr=chance.below(64))[0] for _ in range(50)]
+        self.permitted = [permitted_feature(chance) for _ in range(50)]
         self.never = [feature(usable_privilege=0)[0]]
 
     def pools(self, chance, count):

@@ -43,11 +43,12 @@ PROPERTIES = (
 
 REQUIRED = (b"isa", b"usable-privilege")
 
-# "required where that bit 0 is set": the bit number, and the cell that the bit is in.
+# "required where that bit 0 is set": the bit number, and the cell that the bit is in. `hwcap-bit-nr` is required by no
+# cell (document 02, A2: "11 and 14 for a missing `hwcap-bit-nr` are withdrawn").
 BIT_NUMBERS = {
     b"hfscr-bit-nr": b"hv-support",
     b"fscr-bit-nr": b"os-support",
-    b"hwcap-bit-nr": b"usable-privilege",
+    b"hwcap-bit-nr": None,
 }
 
 # `given` has a bit for each of PROPERTIES, the first the lowest. Then come their cells, zero where the property is not
@@ -89,9 +90,8 @@ def carriers(features):
 
 def is_required(name, given):
     """Whether a feature that gives these values has to give a property too (F6)."""
-    if name in BIT_NUMBERS and BIT_NUMBERS[name] in given:
-        return number_of(given[BIT_NUMBERS[name]]) % 2 == 1
-    return name in REQUIRED
+    support = BIT_NUMBERS.get(name)
+    return name in REQUIRED or (support in given and number_of(given[support]) % 2 == 1)
 
 
 def property_refusal(name, given, earlier):

@@ -21,8 +21,9 @@ Grants = collections.namedtuple("Grants", "hypervisor system hfscr fscr")
 # The bit of each property in `given`.
 GIVEN_BITS = {name: number for number, name in enumerate(Feature._fields[2:])}
 
-# "required where that bit 0 is set": the bit number, and the cell that the bit is in.
-BIT_NUMBERS = {"hfscr_bit_nr": "hv_support", "fscr_bit_nr": "os_support", "hwcap_bit_nr": "usable_privilege"}
+# "required where that bit 0 is set": the bit number, and the cell that the bit is in. `hwcap-bit-nr` is required by no
+# cell (document 02, A2: "11 and 14 for a missing `hwcap-bit-nr` are withdrawn").
+BIT_NUMBERS = {"hfscr_bit_nr": "hv_support", "fscr_bit_nr": "os_support", "hwcap_bit_nr": None}
 
 
 def bit(word, number):
@@ -53,17 +54,23 @@ def needs(record, position):
     return record.slots[first : first + (cell(record.features[position], "dependencies") or 0)]
 
 
+def is_required(feature, name):
+    """Whether a feature has to give a bit number."""
+    support = BIT_NUMBERS[name]
+    return support is not None and is_odd(cell(feature, support))
+
+
 def well_formed(record):
     """What 14 lists, and nothing else (R1)."""
     if record.count > MOST_FEATURES:
         return False
     for position, feature in enumerate(record.features[: record.count]):
-        for name, required_by in BIT_NUMBERS.items():
+        for name in BIT_NUMBERS:
             number = cell(feature, name)
             # "a given bit number above 63, one missing where required"
             if number is not None and number > HIGHEST_BIT:
                 return False
-            if number is None and is_odd(cell(feature, required_by)):
+            if number is None and is_required(feature, name):
                 return False
         # "more than 16 dependencies, or one not below the count"
         if (cell(feature, "dependencies") or 0) > MOST_DEPENDENCIES:
@@ -160,6 +167,12 @@ def shortest_chain(record, permitted, position):
 # Words
 
 
+def capability_bits(features):
+    """The `hwcap-bit-nr` of each feature; one with none "adds nothing to the capability words" (document 02, A2)."""
+    numbers = {cell(feature, "hwcap_bit_nr") for feature in features}
+    return word_of(numbers - {None})
+
+
 def register_bits(features, support, number, granted):
     """ "the granted bits of enabled features whose support bit 0 is set" (R5)"""
     numbers = {cell(feature, number) for feature in features if is_odd(cell(feature, support))}
@@ -172,7 +185,7 @@ def word_values(record, level, grants):
     features = [record.features[position] for position in sorted(enabled)]
     hwcap = hfscr = fscr = 0
     if level == USER:
-        hwcap = word_of(cell(feature, "hwcap_bit_nr") for feature in features)
+        hwcap = capability_bits(features)
         fscr = register_bits(features, "os_support", "fscr_bit_nr", grants.fscr)
     if level < HYPERVISOR:
         hfscr = register_bits(features, "hv_support", "hfscr_bit_nr", grants.hfscr)

@@ -26,8 +26,9 @@ sys.path.insert(0, str(TESTS))
 from vectors import damage, lookups, properties, record_chance, record_faults, records, trees  # noqa: E402
 from vectors import resolver, resolver_chance, resolver_faults, resolver_graphs  # noqa: E402
 
+READER = (records, record_faults, record_chance)
 RESOLVER = (resolver, resolver_faults, resolver_graphs, resolver_chance)
-MODULES = (properties, trees, damage, lookups, records, record_faults, record_chance, *RESOLVER)
+MODULES = (properties, trees, damage, lookups, *READER, *RESOLVER)
 
 # The most bytes of a vector that the program has room for.
 MOST_BYTES = 70000

@@ -76,12 +76,6 @@ def deep(level, node_there):
     return node_there
 
 
-def node_of(nodes, index):
-    """The description of one of a model's nodes, with all that is in it."""
-    children = [node_of(nodes, at) for at, child in enumerate(nodes) if child.parent == index]
-    return Node(nodes[index].name, list(nodes[index].properties.items()), children)
-
-
 # Bytes
 
 

@@ -27,6 +27,8 @@ def chance_given(chance, phandle, carried):
     for name, support in SUPPORTS.items():
         if given.get(support, 0) % 2 or chance.below(4) == 0:
             given[name] = chance.below(64)
+    if chance.below(2):
+        given["hwcap_bit_nr"] = chance.below(64)
     if phandle is not None:
         given["phandle"] = phandle
     if chance.below(2):

@@ -122,8 +122,10 @@ def same_names():
         yield refused_features(9, node(name), node("b"), here(node(name)))
 
 
-# The cell whose bit 0 requires a bit number.
-SUPPORTS = {"hfscr_bit_nr": "hv_support", "fscr_bit_nr": "os_support", "hwcap_bit_nr": "usable_privilege"}
+BIT_NUMBERS = ("hfscr_bit_nr", "fscr_bit_nr", "hwcap_bit_nr")
+
+# The cell whose bit 0 requires a bit number; no cell requires a capability bit (document 02, A2).
+SUPPORTS = {"hfscr_bit_nr": "hv_support", "fscr_bit_nr": "os_support"}
 
 BIT_FAULTS = {11: NO_CELLS, 12: (64, 256, 0x3F000000, 2**31, ALL_ONES)}
 NO_LISTS = tuple((b"\0\0\0\1" * 18)[:length] for length in (1, 2, 3, 5, 7, 63, 65, 69))
@@ -165,9 +167,23 @@ def required():
         yield refused_features(12, here(feature("a", **{support: 1, name: 64})))
         yield refused_features(11, here(feature("a", **{support: 2, name: b"\0\0\0"})))
         # The other two do not stand in for it, nor does that of the container or of a child node.
-        others = {other: 5 for other in SUPPORTS if other != name}
+        others = {other: 5 for other in BIT_NUMBERS if other != name}
         yield refused_features(11, here(feature("a", **{support: 1, **others})))
         yield refused(11, container(here(feature("a", node("n", **{name: 5}), **{support: 1})), **{name: 5}))
+
+
+def capability_bits():
+    """`hwcap-bit-nr` is checked where it is given, with and without the user bit (document 02, A2)."""
+    for usable in (0, 1, 7):
+        for number, values in BIT_FAULTS.items():
+            for value in values:
+                yield refused_features(number, here(feature("a", usable_privilege=usable, hwcap_bit_nr=value)))
+        # Between user features that have none.
+        bad = here(feature("b", usable_privilege=usable, hwcap_bit_nr=64))
+        yield refused_features(12, feature("a", usable_privilege=7), bad, feature("c", usable_privilege=7))
+    # The other bit numbers are required of a user feature that has none.
+    for support in SUPPORTS.values():
+        yield refused_features(11, here(feature("a", **{"usable_privilege": 7, support: 1})))
 
 
 def same_phandles():
@@ -240,12 +256,15 @@ def two_faults():
     # Missing where required, against what comes before and behind it.
     yield refused_features(11, here(feature("a", hv_support=1, fscr_bit_nr=64)))
     yield refused_features(11, here(feature("a", os_support=1, hwcap_bit_nr=64)))
-    yield refused_features(11, here(feature("a", usable_privilege=1, phandle=0)))
     yield refused_features(12, here(feature("a", os_support=1, hfscr_bit_nr=64)))
     yield refused_features(12, here(feature("a", usable_privilege=1, fscr_bit_nr=64)))
     yield refused_features(12, here(feature("a", usable_privilege=1, hfscr_bit_nr=64, os_support=1)))
+    # A user feature without a capability bit has no fault there, and what comes behind it decides.
+    yield refused_features(12, here(feature("a", usable_privilege=1, phandle=0)))
+    yield refused_features(8, here(feature("a", usable_privilege=1, dependencies=[1] * 17)))
+    yield refused_features(13, here(feature("a", usable_privilege=1, dependencies=[1])))
     # Length before range: a cell of the value would be out of range.
-    for name in (*SUPPORTS, "phandle"):
+    for name in (*BIT_NUMBERS, "phandle"):
         high = ALL_ONES if name == "phandle" else 64
         yield refused_features(11, here(feature("a", **{name: [high, 1]})))
         yield refused_features(11, here(feature("a", **{name: [1, high]})))
@@ -427,6 +446,7 @@ def described():
     yield from same_names()
     yield from faults()
     yield from required()
+    yield from capability_bits()
     yield from same_phandles()
     yield from unknown_phandles()
     yield from two_faults()

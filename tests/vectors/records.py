@@ -10,7 +10,6 @@ accepted. The lines come from the model (tests/model/record.py), and the expecte
 """
 
 from model import record as model
-from model import tree as tree_model
 from vectors.blocks import held, read_built
 from vectors.nodes import (
     CONTAINER,
@@ -21,11 +20,9 @@ from vectors.nodes import (
     flat,
     here,
     node,
-    node_of,
     root,
     with_property,
 )
-from vectors.properties import cells
 from vectors.trees import TREES
 
 ALL_ONES = 2**32 - 1
@@ -129,11 +126,24 @@ BUILT = {
     "minimal": refused_line(10, 0x38),
     "names": refused_line(10, 0x38),
     "near-containers": refused_line(10, 0x38),
+    "no-capability-bit": accepted_line(
+        2070,
+        [
+            row(0xC0, LEAST | PHANDLE, 2050, 7, 0, 0, 0, 0, 0, 1),
+            row(0x108, LEAST | HV | HFSCR | HWCAP | PHANDLE, 0, 7, 1, 0, 0, 0, 27, 2),
+            row(0x180, LEAST | HWCAP | DEPENDENCIES, 2050, 7, 0, 0, 0, 0, 10, 0, 1, 0),
+            row(0x1E4, LEAST | OS | FSCR | PHANDLE | DEPENDENCIES, 2070, 7, 0, 1, 0, 7, 0, 3, 1),
+            row(0x260, LEAST | OS | PHANDLE, 0, 7, 0, 0, 0, 0, 0, 4),
+            row(0x2B4, LEAST | HWCAP | DEPENDENCIES, 2060, 7, 0, 0, 0, 0, 1, 0, 4),
+            row(0x314, LEAST | HWCAP, 0, 6, 0, 0, 0, 0, 2, 0),
+            row(0x360, LEAST | OS | FSCR | HWCAP | DEPENDENCIES, 2070, 1, 0, 1, 0, 8, 58, 0, 3),
+        ],
+    ),
     "no-features": accepted_line(3000, []),
     "node-name-64": refused_line(7, 0x88),
     "power9": 0,
-    # The first feature of all is a user feature without a capability bit.
-    "power9-features": refused_line(11, 0xE4),
+    # The tree of a real host, some of whose user features have no capability bit (document 02, A2).
+    "power9-features": 0,
     "power9-reduced": 0,
     "property-name-32": refused_line(7, 0x6C),
     "pseries": refused_line(7, 0x164),
@@ -152,20 +162,6 @@ def built():
         raise ValueError("tests/trees and the table BUILT differ: %s" % sorted(set(trees) ^ set(BUILT)))
     for name, data in trees.items():
         yield "r", data, BUILT[name]
-
-
-def firmware():
-    """All fifty features of a real tree, those of users with a capability bit each."""
-    nodes = tree_model.read(read_built(TREES)["power9-features"])[2]
-    (index,) = [at for at, found in enumerate(nodes) if found.name == tree_model.CONTAINER]
-    whole = node_of(nodes, index)
-    features = []
-    for position, found in enumerate(whole.children):
-        given = dict(found.properties)
-        if given[b"usable-privilege"] == cells(7) and b"hwcap-bit-nr" not in given:
-            found = with_property(found, b"hwcap-bit-nr", position)
-        features.append(found)
-    yield accepted(node("cpus", whole._replace(children=features)))
 
 
 # The container
@@ -295,10 +291,45 @@ def every_property():
     yield accepted_features(here(backwards(whole)), rows=rows)
     for name in given:
         less = feature("a", **{**given, name: None})
-        if name in ("hv_support", "os_support", "dependencies"):
+        if name in ("hv_support", "os_support", "hwcap_bit_nr", "dependencies"):
             yield accepted_features(less)
         else:
             yield refused_features(13 if name == "phandle" else 11, here(less))
+
+
+def capability_bits():
+    """`hwcap-bit-nr` is optional (document 02, A2); one that is given is kept, with and without the user bit."""
+    for usable in (0, 1, 2, 6, 7, 8, 2**31 + 1, ALL_ONES - 1, ALL_ONES):
+        for given, number in ((LEAST, None), (LEAST | HWCAP, 0), (LEAST | HWCAP, 5), (LEAST | HWCAP, 63)):
+            rows = [(given, 3000, usable, 0, 0, 0, 0, number or 0, 0)]
+            yield accepted_features(here(feature("a", usable_privilege=usable, hwcap_bit_nr=number)), rows=rows)
+    # User features in one container: none before one and behind it, and dependencies of either on the other.
+    user = {"usable_privilege": 7}
+    yield accepted_features(
+        here(feature("a", **user, phandle=1)),
+        here(feature("b", **user, hwcap_bit_nr=0, phandle=2, dependencies=[1, 3])),
+        here(feature("c", **user, phandle=3, dependencies=[2])),
+        here(feature("d", **user, hwcap_bit_nr=0, dependencies=[2])),
+        here(feature("e", hwcap_bit_nr=9, dependencies=[3])),
+        rows=[
+            (LEAST | PHANDLE, 3000, 7, 0, 0, 0, 0, 0, 1),
+            (LEAST | HWCAP | PHANDLE | DEPENDENCIES, 3000, 7, 0, 0, 0, 0, 0, 2, 0, 2),
+            (LEAST | PHANDLE | DEPENDENCIES, 3000, 7, 0, 0, 0, 0, 0, 3, 1),
+            (LEAST | HWCAP | DEPENDENCIES, 3000, 7, 0, 0, 0, 0, 0, 0, 1),
+            (LEAST | HWCAP | DEPENDENCIES, 3000, 6, 0, 0, 0, 0, 9, 0, 2),
+        ],
+    )
+    # The other bit numbers do not stand in for it, nor does that of the container or of a child node.
+    registers = {"hv_support": 1, "hfscr_bit_nr": 5, "os_support": 1, "fscr_bit_nr": 6}
+    rows = [(LEAST | HV | OS | HFSCR | FSCR, 3000, 7, 1, 1, 5, 6, 0, 0)]
+    yield accepted_features(here(feature("a", **user, **registers)), rows=rows)
+    rows = [(LEAST, 3000, 7, 0, 0, 0, 0, 0, 0)]
+    child = node("n", hwcap_bit_nr=5)
+    yield accepted(container(here(feature("a", child, **user)), hwcap_bit_nr=5), rows=rows)
+    # Nor does a property of a name that is close.
+    for name in (b"hwcap-bit", b"hwcap-bit-nr-", b"hwcap-bit-nr2", b"HWCAP-bit-nr", b"x-hwcap-bit-nr", b"bit-nr"):
+        for value in (5, 64, b"\0\0\0"):
+            yield accepted_features(here(with_property(feature("a", **user), name, value)), rows=rows)
 
 
 # Phandles and dependencies
@@ -424,12 +455,12 @@ def unknown_properties():
 
 def described():
     """The cases that are described by their nodes."""
-    yield from firmware()
     yield from containers()
     yield from counts()
     yield from different_names()
     yield from values()
     yield from every_property()
+    yield from capability_bits()
     yield from phandles()
     yield from dependencies()
     yield from below_features()

@@ -9,6 +9,7 @@ from vectors.features import (
     EVERYTHING,
     NOTHING,
     REGISTERS,
+    all_but,
     chain_case,
     enabled_case,
     feature,
@@ -71,6 +72,50 @@ def lister_example():
     chains = [(0, room(1), 17), (1, room(1), 17), (2, room(1), [2]), (3, room(4), [3, 2]), (4, room(2), [4])]
     yield chain_case(whole, (USER, REGISTERS, chains), (USER, NOTHING, [(1, room(1), [1]), (3, room(2), [3, 1])]))
     yield reach_case(whole, [{0}, {0, 1}, {2}, {0, 1, 2, 3}, {4}])
+
+
+def older_host():
+    """The features of tests/trees/no-capability-bit.dts, some of them without a capability bit (document 02, A2).
+
+    `given` says which of them: the answers are the same, whatever stands in their cells. No feature has bit 0.
+    """
+    for cells in ((0, 0, 0), (5, 63, 0), (64, ALL_ONES, 2**31)):
+        integer, branch, endian = ({"usable_privilege": 7, "not_given": {"hwcap_bit_nr": cell}} for cell in cells)
+        whole = record(
+            feature(**integer, phandle=1),
+            feature(usable_privilege=7, hv_support=1, hfscr_bit_nr=0, hwcap_bit_nr=27, phandle=2),
+            feature([1, 0], usable_privilege=7, hwcap_bit_nr=10),
+            feature([1], **branch, os_support=1, fscr_bit_nr=7, phandle=3),
+            feature(**endian, os_support=0, phandle=4),
+            feature([4], usable_privilege=7, hwcap_bit_nr=1),
+            feature(hwcap_bit_nr=2),
+            feature([3], usable_privilege=1, os_support=1, fscr_bit_nr=8, hwcap_bit_nr=58),
+            isa=2070,
+        )
+        all_but_last, without_hfscr = range(7), {0, 4, 5, 6}
+        yield enabled_case(
+            whole,
+            (USER, REGISTERS, told({0, 1, 2, 3, 5, 7}, {0, 1, 2, 3, 7}, (0x08000400, 0x04000000, 0x1, 0x180))),
+            (USER, NOTHING, told({0, 2, 5}, {0})),
+            (USER, EVERYTHING, told(all_but(8, 6), all_but(8, 6), (0x08000402, 0x04000000, 0x1, 0x180))),
+            (SYSTEM, NOTHING, told(all_but(7, 1), without_hfscr)),
+            (SYSTEM, REGISTERS, told(all_but_last, all_but_last, (0, 0, 0x1, 0))),
+            (HYPERVISOR, NOTHING, told(all_but_last, all_but_last)),
+            (3, REGISTERS, 15),
+        )
+        of_registers = [(0, b"", 17), (3, room(1), 17), (4, room(2), [4]), (5, room(2), [5, 4]), (6, room(1), [6])]
+        of_nothing = [(0, room(1), 17), (2, room(3), [2, 1]), (3, room(2), [3]), (7, room(1), [7])]
+        yield chain_case(whole, (USER, REGISTERS, of_registers), (USER, NOTHING, of_nothing))
+        rows = [{0}, {1}, {0, 1, 2}, {1, 3}, {4}, {4, 5}, {6}, {1, 3, 7}]
+        yield reach_case(whole, rows)
+        table = [word_of(row) for row in rows]
+        yield table_case(
+            whole,
+            (USER, REGISTERS, table, {0, 1, 2, 3, 7}),
+            (USER, NOTHING, table, {0}),
+            (SYSTEM, NOTHING, table, without_hfscr),
+            (HYPERVISOR, NOTHING, table, all_but_last),
+        )
 
 
 # Permitted
@@ -393,6 +438,7 @@ def cases():
     yield from two_features()
     yield from no_features()
     yield from lister_example()
+    yield from older_host()
     yield from levels()
     yield from supports()
     yield from both_supports()

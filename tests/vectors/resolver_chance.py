@@ -8,7 +8,8 @@ from vectors.chance import Chance
 from vectors.features import ALL_BITS, ALL_ONES, EVERYTHING, NOTHING, feature, record, room
 from vectors.graphs import by_chance, earlier_by_chance, few_by_chance
 from vectors.queries import chain_bytes, enabled_bytes, held_queries, record_bytes, table_bytes
-from vectors.resolver_faults import REQUIRED, TOO_HIGH
+from vectors.record_faults import BIT_NUMBERS, SUPPORTS
+from vectors.resolver_faults import TOO_HIGH
 from vectors.resolver_graphs import asked_chains
 
 SEED = 20240606
@@ -26,14 +27,18 @@ def chance_number(chance):
 
 
 def chance_cells(chance):
-    """(given, not given): the cells of a feature, its bit numbers where they are required, and sometimes where not."""
+    """(given, not given): the cells of a feature, its register bits where they are required, and sometimes where not.
+
+    Half of the features have a capability bit.
+    """
     given = {"isa": chance.choice((0, 2070, 3000, chance_cell(chance)))}
     given["usable_privilege"] = chance.choice((7, 7, 7, 7, 7, 7, 7, 3, 5, 6, None, chance_cell(chance)))
     for support in ("hv_support", "os_support"):
         given[support] = chance.choice((None, None, 0, 1, 1, 1, 2, chance_cell(chance)))
-    for number, support in REQUIRED:
+    for number, support in SUPPORTS.items():
         required = resolver.is_odd(given[support])
         given[number] = chance_number(chance) if required or chance.below(4) == 0 else None
+    given["hwcap_bit_nr"] = chance_number(chance) if chance.below(2) else None
     given["phandle"] = chance.choice((None, chance.below(2**32)))
     absent = [name for name, value in given.items() if value is None]
     return given, {name: chance.choice((64, chance_cell(chance))) for name in absent if chance.below(3) == 0}
@@ -70,7 +75,7 @@ def spoil(chance, whole):
     elif choice == 2:
         features[at] = features[at]._replace(dependencies=chance.choice((17, 16, ALL_ONES)))
     elif choice == 3:
-        features[at] = features[at]._replace(**{chance.choice(REQUIRED)[0]: chance.choice(TOO_HIGH)})
+        features[at] = features[at]._replace(**{chance.choice(BIT_NUMBERS): chance.choice(TOO_HIGH)})
     else:
         features[at] = features[at]._replace(given=features[at].given ^ 1 << chance.between(2, 6))
     return whole._replace(features=features, slots=slots)

@@ -18,9 +18,7 @@ from vectors.features import (
     with_zeros,
 )
 from vectors.queries import chain_bytes, enabled_bytes, held_queries, record_bytes, table_bytes
-
-# The bit number, and the cell whose bit 0 requires it.
-REQUIRED = (("hfscr_bit_nr", "hv_support"), ("fscr_bit_nr", "os_support"), ("hwcap_bit_nr", "usable_privilege"))
+from vectors.record_faults import BIT_NUMBERS, SUPPORTS
 
 TOO_HIGH = (64, 65, 255, 256, 2**16, 2**31, ALL_ONES)
 
@@ -53,26 +51,31 @@ def counts():
 
 
 def high_numbers():
-    """A given bit number above 63, required or not."""
-    for name, support in REQUIRED:
+    """A given bit number above 63, required or not; a capability bit also without the user bit (document 02, A2)."""
+    for name in BIT_NUMBERS:
         for number in TOO_HIGH:
             yield record(feature(**{name: number}))
-        yield record(feature(**{"hwcap_bit_nr": 0, name: 64, support: 7}))
         yield from among_good(feature(**{name: 64}))
         yield last_of_most(feature(**{name: 64}))
+    for name, support in SUPPORTS.items():
+        yield record(feature(**{"hwcap_bit_nr": 0, name: 64, support: 7}))
+    for usable in (None, 0, 1, 7):
+        yield record(feature(usable_privilege=usable, hwcap_bit_nr=64))
 
 
 def missing_numbers():
     """One that is required and not given, whatever its cell."""
-    for name, support in REQUIRED:
+    for name, support in SUPPORTS.items():
         for value in (1, 3, 7, ALL_ONES):
-            yield record(feature(**{"hwcap_bit_nr": 0, support: value, name: None}))
-        yield record(feature(**{"hwcap_bit_nr": 0, support: 1, name: None}, not_given={name: 5}))
-        # Another one is given in its place.
-        others = {other: 1 for other, _ in REQUIRED if other != name}
+            yield record(feature(**{"hwcap_bit_nr": 0, support: value}))
+        yield record(feature(**{"hwcap_bit_nr": 0, support: 1}, not_given={name: 5}))
+        # Others are given in its place.
+        others = {other: 1 for other in BIT_NUMBERS if other != name}
         yield record(feature(**others, **{support: 1}))
-        yield from among_good(feature(**{**others, support: 1}))
-        yield last_of_most(feature(**{**others, support: 1}))
+        yield from among_good(feature(**others, **{support: 1}))
+        yield last_of_most(feature(**others, **{support: 1}))
+        # A user feature without a capability bit.
+        yield record(feature(usable_privilege=7, **{support: 1}))
 
 
 def many_dependencies():
@@ -118,16 +121,27 @@ def malformed():
 
 def not_given():
     """The cells of properties that are not given may be anything."""
-    for name, support in REQUIRED:
+    for name in BIT_NUMBERS:
         for number in (64, ALL_ONES):
             yield record(feature([0], not_given={name: number}), feature([0]))
         yield from among_good(feature(not_given={name: 64}))
+    for support in (*SUPPORTS.values(), "usable_privilege"):
         # Bit 0 of a cell that is not given requires nothing.
         yield from among_good(feature(**{support: None}, not_given={support: 7}))
         yield from among_good(feature(**{support: 6}))
     for many in (1, 16, 17, ALL_ONES):
         yield record(feature(not_given={"dependencies": many}, slots=[64, 2**16 - 1]), feature([0]))
     yield from among_good(feature(not_given={"dependencies": 17}, slots=[3] * 16))
+
+
+def no_capability_bit():
+    """One that is not given is none, with and without the user bit, whatever its cell (document 02, A2)."""
+    for usable in (1, 6, 7, ALL_ONES):
+        for number in (0, 5, 63, 64, ALL_ONES):
+            none = feature([1], usable_privilege=usable, not_given={"hwcap_bit_nr": number})
+            yield record(none, feature([0], usable_privilege=7, hwcap_bit_nr=40))
+    yield from among_good(feature([1], usable_privilege=7))
+    yield last_of_most(feature(usable_privilege=7))
 
 
 def unused_slots():
@@ -163,6 +177,7 @@ def not_asked_for():
 
 def near_misses():
     yield from not_given()
+    yield from no_capability_bit()
     yield from unused_slots()
     yield from unused_features()
     yield from limits()

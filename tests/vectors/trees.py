@@ -53,6 +53,7 @@ BUILT = {
     "minimal": accepted_line([]),
     "names": accepted_line([]),
     "near-containers": accepted_line([]),
+    "no-capability-bit": accepted_line([0x4C]),
     "no-features": accepted_line([0x40]),
     "node-name-64": refused_line(7, 0x88),
     "power9": accepted_line([0x4CC]),

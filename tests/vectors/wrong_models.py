@@ -1,5 +1,5 @@
-"""Tries wrong models on the vectors, of the resolver on kinds `b`, `c`, `e` and `n`, of sizes on kinds `p` and `s`: each must change some
-lines.
+"""Tries wrong models on the vectors: of the resolver on kinds `b`, `c`, `e` and `n`, of the reader of the feature record on
+kind `r`, of sizes on kinds `p` and `s`. Each must change some lines.
 
     python3 tests/vectors/wrong_models.py
 
@@ -17,13 +17,16 @@ sys.dont_write_bytecode = True
 sys.path.insert(0, str(pathlib.Path(__file__).resolve().parent.parent))
 
 # Found by the path above.
-from model import properties, resolver  # noqa: E402
-from vectors.make import RESOLVER  # noqa: E402
+from model import properties, record as reader, resolver  # noqa: E402
+from vectors.make import READER, RESOLVER  # noqa: E402
 from vectors.properties import shown, vectors as property_vectors  # noqa: E402
 from vectors.queries import answer  # noqa: E402
+from vectors.records import answer as record_answer  # noqa: E402
 
 # The right ones, which stand in their module no more while a wrong one is tried.
 is_supported, is_odd, bit, cell = resolver.is_supported, resolver.is_odd, resolver.bit, resolver.cell
+is_required, is_permitted, well_formed = resolver.is_required, resolver.is_permitted, resolver.well_formed
+enabled_positions, word_values = resolver.enabled_positions, resolver.word_values
 
 
 def absent_is_zero(support, number, granted, own_code):
@@ -80,6 +83,86 @@ def absent_number_tested(feature, name):
     return getattr(feature, name) if name in resolver.BIT_NUMBERS else cell(feature, name)
 
 
+# Document 02, A2
+
+
+def has_user_bit(feature):
+    return is_odd(cell(feature, "usable_privilege"))
+
+
+def has_capability_bit(feature):
+    return cell(feature, "hwcap_bit_nr") is not None
+
+
+def missing_is_bit_0(feature, name, missing):
+    """This bit number may be missing, and then it is 0."""
+    number = cell(feature, name)
+    return 0 if name == missing and number is None else number
+
+
+def no_capability_bit_is_bit_0(feature, name):
+    return missing_is_bit_0(feature, name, "hwcap_bit_nr")
+
+
+def missing_hfscr_bit_is_bit_0(feature, name):
+    return missing_is_bit_0(feature, name, "hfscr_bit_nr")
+
+
+def missing_fscr_bit_is_bit_0(feature, name):
+    return missing_is_bit_0(feature, name, "fscr_bit_nr")
+
+
+def capability_bit_0_is_none(features):
+    numbers = [cell(feature, "hwcap_bit_nr") for feature in features]
+    return resolver.word_of(number for number in numbers if number)
+
+
+def absent_capability_bit_tested(feature, name):
+    return feature.hwcap_bit_nr if name == "hwcap_bit_nr" else cell(feature, name)
+
+
+def absent_capability_bit_set(features):
+    """The number in the cell is taken, whatever is given."""
+    return resolver.word_of(feature.hwcap_bit_nr % 64 for feature in features)
+
+
+def user_bit_requires_number(feature, name):
+    """Document 01's rule."""
+    return is_required(feature, name) or (name == "hwcap_bit_nr" and has_user_bit(feature))
+
+
+def capability_bit_permits(feature, position, level, grants):
+    """At user level only features with a capability bit are permitted."""
+    return is_permitted(feature, position, level, grants) and (level > 0 or has_capability_bit(feature))
+
+
+def capability_bit_enables(record, permitted):
+    """User features without one are left out, and what needs them is not."""
+    features = record.features
+    lacking = {at for at in permitted if has_user_bit(features[at]) and not has_capability_bit(features[at])}
+    return enabled_positions(record, permitted) - lacking
+
+
+def with_good_numbers(record, is_tested):
+    """The record with capability bit 0 in the features that are not tested."""
+    features = [one if is_tested(one) else one._replace(hwcap_bit_nr=0) for one in record.features]
+    return record._replace(features=features)
+
+
+def high_capability_bit_fits(record):
+    return well_formed(with_good_numbers(record, lambda feature: False))
+
+
+def high_capability_bit_fits_without_user_bit(record):
+    return well_formed(with_good_numbers(record, has_user_bit))
+
+
+def capability_words_at_all_levels(record, level, grants):
+    enabled = enabled_positions(record, resolver.permitted_positions(record, level, grants))
+    hwcap = resolver.capability_bits([record.features[at] for at in enabled])
+    return (hwcap % 2**32, hwcap >> 32, *word_values(record, level, grants)[2:])
+
+
 WRONG = (
     ("is_supported", absent_is_zero),
     ("is_supported", zero_is_absent),
@@ -93,6 +176,74 @@ WRONG = (
     ("enabled_by_rows", zero_row_is_none),
     ("asked_refusal", level_before_form),
     ("cell", absent_number_tested),
+    ("cell", no_capability_bit_is_bit_0),
+    ("cell", missing_hfscr_bit_is_bit_0),
+    ("cell", missing_fscr_bit_is_bit_0),
+    ("capability_bits", capability_bit_0_is_none),
+    ("cell", absent_capability_bit_tested),
+    ("capability_bits", absent_capability_bit_set),
+    ("is_required", user_bit_requires_number),
+    ("is_permitted", capability_bit_permits),
+    ("enabled_positions", capability_bit_enables),
+    ("well_formed", high_capability_bit_fits),
+    ("well_formed", high_capability_bit_fits_without_user_bit),
+    ("word_values", capability_words_at_all_levels),
+)
+
+
+# The right ones of the reader.
+requires, property_refusal, feature_of = reader.is_required, reader.property_refusal, reader.feature_of
+
+CAPABILITY_BIT = 2 ** resolver.GIVEN_BITS["hwcap_bit_nr"]
+
+
+def gives_user_bit(given):
+    return reader.number_of(given[b"usable-privilege"]) % 2 == 1
+
+
+def user_bit_requires_property(name, given):
+    """Document 01's rule."""
+    return requires(name, given) or (name == b"hwcap-bit-nr" and gives_user_bit(given))
+
+
+def hfscr_bit_optional(name, given):
+    return name != b"hfscr-bit-nr" and requires(name, given)
+
+
+def fscr_bit_optional(name, given):
+    return name != b"fscr-bit-nr" and requires(name, given)
+
+
+def high_capability_bit_read(name, given, earlier):
+    number = property_refusal(name, given, earlier)
+    return 0 if name == b"hwcap-bit-nr" and number == 12 else number
+
+
+def high_capability_bit_read_without_user_bit(name, given, earlier):
+    number = property_refusal(name, given, earlier)
+    return 0 if name == b"hwcap-bit-nr" and number == 12 and not gives_user_bit(given) else number
+
+
+def capability_bit_given_always(node):
+    """None is a given bit 0."""
+    feature = feature_of(node)
+    return feature._replace(given=feature.given | CAPABILITY_BIT)
+
+
+def capability_bit_only_of_users(node):
+    """A given one is kept where the user bit is set."""
+    feature = feature_of(node)
+    return feature if has_user_bit(feature) else feature._replace(given=feature.given & ~CAPABILITY_BIT, hwcap_bit_nr=0)
+
+
+WRONG_READER = (
+    ("is_required", user_bit_requires_property),
+    ("is_required", hfscr_bit_optional),
+    ("is_required", fscr_bit_optional),
+    ("property_refusal", high_capability_bit_read),
+    ("property_refusal", high_capability_bit_read_without_user_bit),
+    ("feature_of", capability_bit_given_always),
+    ("feature_of", capability_bit_only_of_users),
 )
 
 
@@ -169,15 +320,21 @@ def first_changed(model, answers, vectors, name, wrong):
 
 def main():
     queries = [vector for module in RESOLVER for vector in module.vectors()]
+    records = [vector for module in READER for vector in module.vectors()]
     sizes = [vector for vector in property_vectors() if vector[0] in "ps"]
-    tried = [(resolver, answer, queries, *wrong) for wrong in WRONG] + [(properties, sizes_answer, sizes, *wrong) for wrong in WRONG_SIZES]
+    tried = [
+        *[(resolver, answer, queries, *wrong) for wrong in WRONG],
+        *[(reader, lambda _, data: record_answer(data), records, *wrong) for wrong in WRONG_READER],
+        *[(properties, sizes_answer, sizes, *wrong) for wrong in WRONG_SIZES],
+    ]
     for model, answers, vectors, name, wrong in tried:
         found = first_changed(model, answers, vectors, name, wrong)
         if found is None:
             print("the wrong model %s for %s changes no vector" % (wrong.__name__, name), file=sys.stderr)
             return 1
         print("wrong model %s for %s: changes vector %s first" % (wrong.__name__, name, found))
-    print("%d wrong models of the resolver and %d of sizes, each seen" % (len(WRONG), len(WRONG_SIZES)))
+    counts = len(WRONG), len(WRONG_READER), len(WRONG_SIZES)
+    print("%d wrong models of the resolver, %d of the reader and %d of sizes, each seen" % counts)
     return 0
 
 
