@@ -8,7 +8,7 @@ use native.Mathlib.Omega.{arith}
 use lib.Arith.{digits-mod, lt-one}
 use lib.Bits.{bitAnd, bitOr, and-step, or-step, and-shr, or-shr}
 use lib.Count.{ones, ones-step}
-use lib.Pow.{pow-mono}
+use lib.Pow.{pow-mono, pow-add, field, mod-mod-pow}
 use lib.Dec.{eqb, eqb·zero-suc, eqb·suc-zero, eqb·suc-suc}
 use Rattle.positions.specs.Below.{oneIf, count}
 use Rattle.positions.specs.Bits.{bit, notZero}
@@ -60,6 +60,18 @@ bit-zero x = ap (λ (y : ℕ). notZero (y % 2)) (div-one x)
 pub bit-suc : (x i : ℕ) → bit x (suc i) ≡ bit (x / 2) i
 unfolding bit
 bit-suc x i = rw (pow-suc, mul-comm (2 ^ i) 2, ← (div-div-eq-div-mul x 2 (2 ^ i)))
+
+-- the bits of the two parts of a word
+pub bit-low : (x k i : ℕ) → i < k → bit (x % 2 ^ k) i ≡ bit x i
+unfolding bit
+bit-low x k i h =
+    let j : ℕ = k - i - 1 in
+    let e : k ≡ j + 1 + i = omega arith in
+    ap notZero (ap (λ (n : ℕ). x % 2 ^ n / 2 ^ i % 2) e ∙ ap (λ (n : ℕ). n % 2) (field x (j + 1) i) ∙ mod-mod-pow (x / 2 ^ i) j 1)
+
+pub bit-high : (x k i : ℕ) → bit (x / 2 ^ k) i ≡ bit x (k + i)
+unfolding bit
+bit-high x k i = ap (λ (n : ℕ). notZero (n % 2)) (div-div-eq-div-mul x (2 ^ k) (2 ^ i) ∙ ap (λ (n : ℕ). x / n) (sym (pow-add 2 k i)))
 
 pub bit-none : (i : ℕ) → bit 0 i ≡ false
 bit-none zero = bit-zero 0

@@ -1,7 +1,9 @@
 -- The tree of document 01, "Both sides", as dtc builds it from tests/trees/features.dts.
 use Prim.Native.Nat.{ℕ}
-use mathlib.Core.List.{List, [], _∷_, _++_}
-use lib.ListN.{replicate}
+use mathlib.Core.List.{List, [], _∷_, _++_, flatMap}
+use lib.ListN.{take, drop, replicate}
+use Rattle.cells.specs.Bytes.{cellBytes}
+use Rattle.record.specs.declared.Feature.{Feature}
 use Rattle.record.specs.declared.Record.{Record}
 use Rattle.record.specs.Record.{noFeature}
 
@@ -56,11 +58,44 @@ exampleTree =
     110 ∷ 100 ∷ 101 ∷ 110 ∷ 99 ∷ 105 ∷ 101 ∷ 115 ∷ 0 ∷
     []
 
--- its record: bravo needs alpha; delta needs bravo and carol
-unfoldable pub exampleRecord : Record
-exampleRecord = record {
+-- the same with NOP tokens in the place of alpha's `hwcap-bit-nr`: a user feature without a capability bit (A2)
+unfoldable pub olderTree : List ℕ
+olderTree = take 236 exampleTree ++ flatMap cellBytes (4 ∷ 4 ∷ 4 ∷ 4 ∷ []) ++ drop 252 exampleTree
+
+-- alpha, by its word `given` and its capability bit
+abbrev alpha : ℕ → ℕ → Feature
+alpha given number = record {
+  offset = 192;
+  given = given;
+  isa = 3000;
+  «usable_privilege» = 7;
+  «hv_support» = 0;
+  «os_support» = 0;
+  «hfscr_bit_nr» = 0;
+  «fscr_bit_nr» = 0;
+  «hwcap_bit_nr» = number;
+  phandle = 1;
+  dependencies = 0;
+}
+
+-- the record, by its first feature: bravo needs alpha; delta needs bravo and carol
+abbrev recordFrom : Feature → Record
+recordFrom first = record {
   isa = 3000;
   count = 5;
-  features = (record { offset = 192; given = 195; isa = 3000; «usable_privilege» = 7; «hv_support» = 0; «os_support» = 0; «hfscr_bit_nr» = 0; «fscr_bit_nr» = 0; «hwcap_bit_nr» = 2; phandle = 1; dependencies = 0 }) ∷ (record { offset = 272; given = 491; isa = 3000; «usable_privilege» = 7; «hv_support» = 0; «os_support» = 1; «hfscr_bit_nr» = 0; «fscr_bit_nr» = 9; «hwcap_bit_nr» = 35; phandle = 2; dependencies = 1 }) ∷ (record { offset = 400; given = 203; isa = 3000; «usable_privilege» = 7; «hv_support» = 0; «os_support» = 0; «hfscr_bit_nr» = 0; «fscr_bit_nr» = 0; «hwcap_bit_nr» = 5; phandle = 3; dependencies = 0 }) ∷ (record { offset = 496; given = 323; isa = 3000; «usable_privilege» = 7; «hv_support» = 0; «os_support» = 0; «hfscr_bit_nr» = 0; «fscr_bit_nr» = 0; «hwcap_bit_nr» = 6; phandle = 0; dependencies = 2 }) ∷ (record { offset = 580; given = 3; isa = 3000; «usable_privilege» = 6; «hv_support» = 0; «os_support» = 0; «hfscr_bit_nr» = 0; «fscr_bit_nr» = 0; «hwcap_bit_nr» = 0; phandle = 0; dependencies = 0 }) ∷ replicate 59 noFeature;
+  features =
+      first
+      ∷ (record { offset = 272; given = 491; isa = 3000; «usable_privilege» = 7; «hv_support» = 0; «os_support» = 1; «hfscr_bit_nr» = 0; «fscr_bit_nr» = 9; «hwcap_bit_nr» = 35; phandle = 2; dependencies = 1 })
+      ∷ (record { offset = 400; given = 203; isa = 3000; «usable_privilege» = 7; «hv_support» = 0; «os_support» = 0; «hfscr_bit_nr» = 0; «fscr_bit_nr» = 0; «hwcap_bit_nr» = 5; phandle = 3; dependencies = 0 })
+      ∷ (record { offset = 496; given = 323; isa = 3000; «usable_privilege» = 7; «hv_support» = 0; «os_support» = 0; «hfscr_bit_nr» = 0; «fscr_bit_nr» = 0; «hwcap_bit_nr» = 6; phandle = 0; dependencies = 2 })
+      ∷ (record { offset = 580; given = 3; isa = 3000; «usable_privilege» = 6; «hv_support» = 0; «os_support» = 0; «hfscr_bit_nr» = 0; «fscr_bit_nr» = 0; «hwcap_bit_nr» = 0; phandle = 0; dependencies = 0 })
+      ∷ replicate 59 noFeature;
   slots = replicate 48 0 ++ (1 ∷ 2 ∷ replicate 974 0);
 }
+
+unfoldable pub exampleRecord : Record
+exampleRecord = recordFrom (alpha 195 2)
+
+-- the bit of alpha's `hwcap-bit-nr` in `given` is clear, and its cell zero
+unfoldable pub olderRecord : Record
+olderRecord = recordFrom (alpha 131 0)

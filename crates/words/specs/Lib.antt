@@ -1,2 +1,3 @@
 pub mod Words
+pub mod Capability
 pub mod Parts
