@@ -25,6 +25,7 @@ use Rattle.reading.specs.Reading.{readRecord}
 use Rattle.reading.proofs.Accepts.{read-accepts}
 use Rattle.reading.proofs.Faults.{read-ends}
 use Rattle.reading.proofs.Dependencies.{read-holds, read-zeroed, read-dependencies}
+use Rattle.reading.proofs.Capability.{read-capability}
 use Rattle.reading.proofs.TotalSize.{same-tree-read}
 use Rattle.listing.proofs.TotalSize.{same-tree-listing, first-listing}
 use Rattle.cases.specs.Demand2.{Demand2Tree, Demand2Lookup, Demand2Sizes, Demand2Value, Demand2Unit, Demand2}
@@ -39,6 +40,7 @@ of-tree tree = record {
   holds = read-holds tree;
   zeroed = read-zeroed tree;
   resolved = read-dependencies tree;
+  capability = read-capability tree;
   behind = same-tree-read tree;
   listBehind = same-tree-listing tree;
   listFirst = first-listing tree;

@@ -18,6 +18,9 @@ use Rattle.positions.specs.Below.{count}
 use Rattle.positions.specs.Bits.{bit}
 use Rattle.positions.specs.Sets.{has}
 use Rattle.record.specs.declared.Record.{Record}
+use Rattle.record.specs.declared.Property.the-variants.{HwcapBitNr}
+use Rattle.record.specs.declared.Cell.the-variants.{Absent, Given}
+use Rattle.record.specs.Record.{featureAt}
 use Rattle.record.specs.Cells.{bitOf, held, cell, dependencyCount}
 use Rattle.form.specs.WellFormed.{wellFormed}
 use Rattle.permitted.specs.declared.Grants.{Grants}
@@ -27,8 +30,12 @@ use Rattle.tables.specs.Tables.{inRow}
 use Rattle.closure.specs.Graph.{dependenciesIn, dependencyIn}
 use Rattle.closure.specs.Reach.{Needs, self, via}
 use Rattle.walk.specs.TotalSize.{SameTree}
-use Rattle.reading.specs.Example.{exampleTree}
-use Rattle.reading.proofs.Example.{example-read}
+use Rattle.words.specs.Words.{WordValues}
+use Rattle.words.specs.Capability.{CapabilityWords}
+use Rattle.reading.specs.Reading.{readRecord}
+use Rattle.reading.specs.Example.{exampleTree, olderTree, olderRecord}
+use Rattle.reading.proofs.Example.{example-read, older-read}
+use Rattle.reading.proofs.Dependencies.{read-holds}
 use Rattle.reading.proofs.Accepts.{read-accepts}
 use Rattle.cases.specs.Cases.{cycle, noGrants}
 use Rattle.cases.specs.Demand2.{Demand2Tree, Demand2Sizes}
@@ -41,9 +48,35 @@ module _ (read : List ℕ → Placed Record) (d : (tree : List ℕ) → Demand2T
   pub refuses-all : ((tree : List ℕ) → read tree .number ≡ 0 → ⊥) → ⊥
   refuses-all f = f exampleTree (d exampleTree .accepted .1 (read-accepts exampleTree .0 (ap (λ (p : Placed Record). p .number) example-read)))
 
+  -- one that turns a tree away because a user feature in it has no capability bit, and one that takes none for bit 0
+  older-accepted : read olderTree .number ≡ 0
+  older-accepted = d olderTree .accepted .1 (read-accepts olderTree .0 (ap (λ (p : Placed Record). p .number) older-read))
+
+  pub turns-away : (read olderTree .number ≡ 0 → ⊥) → ⊥
+  turns-away f = f older-accepted
+
+  pub none-is-bit-0 : cell (featureAt (read olderTree .value) 0) HwcapBitNr ≡ Given 0 → ⊥
+  unfolding olderRecord cell held bitOf bit
+  none-is-bit-0 e =
+      let h = d olderTree .holds older-accepted in
+      let k = read-holds olderTree (ap (λ (p : Placed Record). p .number) older-read) in
+      let five : readRecord olderTree .value .count ≡ 5 = ap (λ (p : Placed Record). p .value .count) older-read in
+      let absent : cell (featureAt (readRecord olderTree .value) 0) HwcapBitNr ≡ Absent =
+      ap (λ (p : Placed Record). cell (featureAt (p .value) 0) HwcapBitNr) older-read in
+      let same = sym e ∙ h .cells 0 (omega (arith, h .count, k .count)) HwcapBitNr ∙ sym (k .cells 0 (omega arith) HwcapBitNr) ∙ absent in
+      let z : _≡_ {A = ℕ} 0 1 = cc in
+      omega arith
+
   -- one whose answer changes with a byte behind the total size
   pub reads-behind : (s t : List ℕ) → SameTree s t → (read s ≡ read t → ⊥) → ⊥
   reads-behind s t same f = f (d s .behind t same)
+
+-- a call for the words that sets a bit which is the number of no enabled feature, as bit 0 for those that have none
+pub bit-of-none : (told : Outcome WordValues) (r : Record) (level : ℕ) (g : Grants) → CapabilityWords told r level g
+    → ((i : ℕ) → i < r .count → cell (featureAt r i) HwcapBitNr ≡ Absent) → bit (told .value .first) 0 ≡ true → ⊥
+bit-of-none told r level g c none on =
+    let s = c .first 0 (omega arith) .0 on in
+    let z : _≡_ {A = ℕ} 0 1 = cc (none (s .position) (s .feature)) in omega arith
 
 -- readers of segment sizes
 module _ (read : List ℕ → Outcome SizeTable) (d : (value : List ℕ) → Demand2Sizes sizeOrNone read value) where

@@ -27,10 +27,15 @@ use Rattle.walk.specs.TotalSize.{SameTree}
 use Rattle.lookup.specs.Lookup.{lookup, reason}
 use Rattle.lookup.specs.LooksUp.{LooksUp}
 use Rattle.record.specs.declared.Record.{Record}
+use Rattle.record.specs.declared.Property.the-variants.{HwcapBitNr}
+use Rattle.record.specs.Record.{featureAt}
+use Rattle.record.specs.Cells.{cell}
+use Rattle.nodes.specs.Nodes.{nodeAt}
+use Rattle.nodes.specs.Values.{valueOf}
 use Rattle.reading.specs.Reading.{readRecord}
 use Rattle.reading.specs.Accepted.{containerOf, featuresOf, Accepted}
 use Rattle.reading.specs.Ends.{ReadEnds}
-use Rattle.reading.specs.Resolved.{Holds, Zeroed, Resolved}
+use Rattle.reading.specs.Resolved.{Holds, CapabilityBit, Zeroed, Resolved}
 use Rattle.listing.specs.Listing.{listing}
 
 -- "The record read .. [is that] which the Devicetree Specification and the bindings define, as document 01 condenses them": what a
@@ -47,6 +52,9 @@ pub record Demand2Tree (read : List ℕ → Placed Record) (tree : List ℕ) : T
   pub holds : read tree .number ≡ 0 → Holds (containerOf tree) (read tree .value)
   pub zeroed : read tree .number ≡ 0 → Zeroed (read tree .value)
   pub resolved : read tree .number ≡ 0 → Resolved (featuresOf tree) (read tree .value)
+  -- (A2) "The feature record now holds either a bit number or none"
+  pub capability : read tree .number ≡ 0 → (i : ℕ) → i < length (featuresOf tree)
+      → CapabilityBit (valueOf (nodeAt (featuresOf tree) i) "hwcap-bit-nr") (cell (featureAt (read tree .value) i) HwcapBitNr)
   -- "Bytes after the total size are not read": neither for the record nor for the list; the lister reads 65,536 bytes of its input
   pub behind : (other : List ℕ) → SameTree tree other → read tree ≡ read other
   pub listBehind : (other : List ℕ) → SameTree tree other → listing tree ≡ listing other

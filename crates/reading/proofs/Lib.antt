@@ -15,6 +15,7 @@ pub mod SlotRowLaws
 pub mod Slots
 pub mod Dependencies
 pub mod Formed
+pub mod Capability
 pub mod Example
 pub mod OrderLaws
 pub mod WalkedLaws

@@ -6,11 +6,12 @@ use lib.ListN.{length, getD}
 use Rattle.record.specs.declared.Record.{Record}
 use Rattle.record.specs.declared.Property.{Property}
 use Rattle.record.specs.declared.Property.the-variants.{Phandle}
-use Rattle.record.specs.declared.Cell.the-variants.{Given}
-use Rattle.record.specs.Record.{mostFeatures, mostDependencies, slotCount, noFeature, featureAt, slotAt}
+use Rattle.record.specs.declared.Cell.{Cell}
+use Rattle.record.specs.declared.Cell.the-variants.{Absent, Given}
+use Rattle.record.specs.Record.{mostFeatures, mostDependencies, slotCount, highestHwcapBit, noFeature, featureAt, slotAt}
 use Rattle.record.specs.Cells.{cell, dependencyCount}
 use Rattle.nodes.specs.Nodes.{Node, nodeAt, children}
-use Rattle.nodes.specs.Values.{valueOf, number}
+use Rattle.nodes.specs.Values.{Value, missing, value, valueOf, number}
 use Rattle.reading.specs.Features.{cellIn}
 use Rattle.reading.specs.Accepted.{dependenciesOf}
 
@@ -21,6 +22,11 @@ pub record Holds (container : Node) (r : Record) : Type 0 where
   pub count : r .count ≡ length (children container)
   pub offset : (i : ℕ) → i < r .count → featureAt r i .offset ≡ nodeAt (children container) i .at
   pub cells : (i : ℕ) → i < r .count → (p : Property) → cell (featureAt r i) p ≡ cellIn (nodeAt (children container) i) p
+
+-- (A2) "The feature record now holds either a bit number or none": what it holds of a node's `hwcap-bit-nr`
+pub data CapabilityBit : Value → Cell → Type 0 where
+  none : CapabilityBit missing Absent
+  numbered : {bytes : List ℕ} → length bytes ≡ 4 → number (value bytes) ≤ highestHwcapBit → CapabilityBit (value bytes) (Given (number (value bytes)))
 
 -- "one flat run of 1,024 dependency slots, 16 a feature"; "Unused slots are zero"
 pub record Zeroed (r : Record) : Type 0 where
