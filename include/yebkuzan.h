@@ -85,7 +85,10 @@ extern "C" {
 #define YEBKUZAN_LEVEL_SYSTEM 1u
 #define YEBKUZAN_LEVEL_HYPERVISOR 2u
 
-/* The bits of a feature's `given`: which of its properties the tree has. Absent and zero differ. */
+/*
+ * The bits of a feature's `given`: which of its properties the tree has. Absent and zero differ. In a record that does not come from
+ * yebkuzan_read, a property whose bit is clear is absent, whatever number stands in its cell.
+ */
 
 #define YEBKUZAN_GIVEN_ISA 0x001u
 #define YEBKUZAN_GIVEN_USABLE_PRIVILEGE 0x002u
@@ -120,7 +123,7 @@ typedef struct YebkuzanFeature {
     uint32_t os_support;       /* bit 0: by the FSCR bit fscr_bit_nr */
     uint32_t hfscr_bit_nr;
     uint32_t fscr_bit_nr;
-    uint32_t hwcap_bit_nr;
+    uint32_t hwcap_bit_nr; /* a feature may have none: then YEBKUZAN_GIVEN_HWCAP_BIT_NR is clear, and 0 here is not bit 0 */
     uint32_t phandle;
     uint32_t dependencies;
 } YebkuzanFeature;
@@ -225,7 +228,7 @@ typedef struct YebkuzanReach {
 
 typedef struct YebkuzanWords {
     uint32_t number;
-    uint32_t hwcap_first;  /* hwcap-bit-nr 0 to 31 */
+    uint32_t hwcap_first;  /* hwcap-bit-nr 0 to 31 of the features that have one */
     uint32_t hwcap_second; /* hwcap-bit-nr 32 to 63 */
     uint64_t hfscr;
     uint64_t fscr;
@@ -290,7 +293,11 @@ YebkuzanRead yebkuzan_read(const uint8_t *tree, size_t tree_length);
 
 /* The resolver. A record may come from yebkuzan_read, or from anywhere else: one that is not well formed is refused. */
 
-/* Whether a record is well formed: 0, or 14. A record that was read without refusal is. */
+/*
+ * Whether a record is well formed: 0, or 14. A record that was read without refusal is. It is not where the count is above 64, or where a
+ * feature below it has a given bit number above 63, no hfscr_bit_nr (fscr_bit_nr) though bit 0 of hv_support (os_support) is set, more
+ * than 16 dependencies, or one that is not below the count. A hwcap_bit_nr may be missing.
+ */
 uint32_t yebkuzan_well_formed(YebkuzanRecord record);
 
 /* The features that are permitted at a level. 14, 15. */
@@ -317,8 +324,9 @@ YebkuzanWritten yebkuzan_chain(
     YebkuzanRecord record, uint32_t level, YebkuzanGrants grants, uint32_t position, uint8_t *out, size_t out_length);
 
 /*
- * The words of the enabled features: at user level the two capability words; below hypervisor HFSCR, and at user level FSCR, with the
- * granted bits of enabled features whose support bit 0 is set. Zero elsewhere. 14, 15.
+ * The words of the enabled features: at user level the two capability words, to which a feature without a hwcap_bit_nr adds nothing;
+ * below hypervisor HFSCR, and at user level FSCR, with the granted bits of enabled features whose support bit 0 is set. Zero elsewhere.
+ * 14, 15.
  */
 YebkuzanWords yebkuzan_words(YebkuzanRecord record, uint32_t level, YebkuzanGrants grants);
 

@@ -35,7 +35,7 @@ use Rattle.nodes.specs.Values.{valueOf}
 use Rattle.reading.specs.Reading.{readRecord}
 use Rattle.reading.specs.Accepted.{containerOf, featuresOf, Accepted}
 use Rattle.reading.specs.Ends.{ReadEnds}
-use Rattle.reading.specs.Resolved.{Holds, CapabilityBit, Zeroed, Resolved}
+use Rattle.reading.specs.Resolved.{Holds, CapabilityHeld, Zeroed, Resolved}
 use Rattle.listing.specs.Listing.{listing}
 
 -- "The record read .. [is that] which the Devicetree Specification and the bindings define, as document 01 condenses them": what a
@@ -54,7 +54,7 @@ pub record Demand2Tree (read : List ℕ → Placed Record) (tree : List ℕ) : T
   pub resolved : read tree .number ≡ 0 → Resolved (featuresOf tree) (read tree .value)
   -- (A2) "The feature record now holds either a bit number or none"
   pub capability : read tree .number ≡ 0 → (i : ℕ) → i < length (featuresOf tree)
-      → CapabilityBit (valueOf (nodeAt (featuresOf tree) i) "hwcap-bit-nr") (cell (featureAt (read tree .value) i) HwcapBitNr)
+      → CapabilityHeld (valueOf (nodeAt (featuresOf tree) i) "hwcap-bit-nr") (cell (featureAt (read tree .value) i) HwcapBitNr)
   -- "Bytes after the total size are not read": neither for the record nor for the list; the lister reads 65,536 bytes of its input
   pub behind : (other : List ℕ) → SameTree tree other → read tree ≡ read other
   pub listBehind : (other : List ℕ) → SameTree tree other → listing tree ≡ listing other

@@ -4,7 +4,7 @@ use mathlib.Core.Path.{_≡_, refl}
 use mathlib.Core.Bool.{Bool, true, false}
 use native.Mathlib.Omega.{arith}
 use borrow.Author.Tests.{leb-true, ltb-true, le-leb, lt-ltb}
-use lib.Dec.{leb, ltb}
+use lib.Dec.{leb}
 use Rattle.positions.specs.Below.{every}
 use Rattle.positions.proofs.BelowLaws.{and-left, and-right, no-way, every-at, every-of}
 use Rattle.record.specs.Record.{mostFeatures, mostDependencies, noFeatures, featureAt, slotAt}

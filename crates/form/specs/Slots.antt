@@ -7,7 +7,7 @@ use lib.Dec.{ltb}
 use lib.ListN.{getD}
 use Rattle.record.specs.declared.Feature.{Feature}
 use Rattle.record.specs.Record.{mostFeatures, mostDependencies}
-use Rattle.form.specs.WellFormed.{slotsFit, fits}
+use Rattle.form.specs.WellFormed.{slotsFit, fitsIn}
 
 -- the dependencies of one of 64 positions fit
 unfoldable pub slotsFitAt : List ℕ → ℕ → ℕ → ℕ → Bool
@@ -15,7 +15,7 @@ slotsFitAt slots count i n = ltb i mostFeatures && slotsFit slots count i n
 
 -- a feature fits at one of 64 positions
 unfoldable pub fitsAt : Feature → List ℕ → ℕ → ℕ → Bool
-fitsAt f slots count i = ltb i mostFeatures && fits f slots count i
+fitsAt f slots count i = ltb i mostFeatures && fitsIn f slots count i
 
 -- none of the slots of position i is above a number
 abbrev pub SlotsUpTo : List ℕ → ℕ → ℕ → Type 0

@@ -34,11 +34,11 @@ unfoldable pub slotsFit : List ℕ → ℕ → ℕ → ℕ → Bool
 slotsFit slots count i n = leb n mostDependencies && every n (slotBelow slots count i)
 
 -- a feature at position i: its bit numbers, and its dependencies
-abbrev pub fits : Feature → List ℕ → ℕ → ℕ → Bool
-fits f slots count i = bitsFit f && slotsFit slots count i (dependencyCount f)
+abbrev pub fitsIn : Feature → List ℕ → ℕ → ℕ → Bool
+fitsIn f slots count i = bitsFit f && slotsFit slots count i (dependencyCount f)
 
 abbrev pub featureFits : Record → ℕ → Bool
-featureFits r i = fits (featureAt r i) (r .slots) (r .count) i
+featureFits r i = fitsIn (featureAt r i) (r .slots) (r .count) i
 
 unfoldable pub wellFormed : Record → Bool
 wellFormed r = leb (r .count) mostFeatures && every (r .count) (featureFits r)

@@ -7,7 +7,7 @@ use native.Mathlib.Omega.{arith}
 use lib.Dec.{leb}
 use Rattle.positions.specs.Sets.{setWords, has, collect}
 use Rattle.positions.proofs.SetLaws.{collect-same}
-use Rattle.record.specs.Cells.{cell, bitOf, held}
+use Rattle.record.specs.Cells.{cell}
 use Rattle.record.specs.Record.{mostFeatures, featureAt}
 use Rattle.record.specs.declared.Feature.{Feature}
 use Rattle.record.specs.declared.Record.{Record}

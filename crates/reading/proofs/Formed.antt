@@ -7,7 +7,6 @@ use native.Mathlib.Omega.{arith}
 use Rattle.record.specs.declared.Record.{Record}
 use Rattle.record.specs.declared.Property.{Property}
 use Rattle.record.specs.declared.Property.the-variants.{HvSupport, OsSupport, HfscrBitNr, FscrBitNr, HwcapBitNr}
-use Rattle.record.specs.declared.Cell.the-variants.{Given}
 use Rattle.record.specs.Record.{featureAt}
 use Rattle.record.specs.Cells.{cell}
 use Rattle.form.specs.Formed.{InRange, GivenWith, FeatureFormed}

@@ -24,9 +24,9 @@ pub record Holds (container : Node) (r : Record) : Type 0 where
   pub cells : (i : ℕ) → i < r .count → (p : Property) → cell (featureAt r i) p ≡ cellIn (nodeAt (children container) i) p
 
 -- (A2) "The feature record now holds either a bit number or none": what it holds of a node's `hwcap-bit-nr`
-pub data CapabilityBit : Value → Cell → Type 0 where
-  none : CapabilityBit missing Absent
-  numbered : {bytes : List ℕ} → length bytes ≡ 4 → number (value bytes) ≤ highestHwcapBit → CapabilityBit (value bytes) (Given (number (value bytes)))
+pub data CapabilityHeld : Value → Cell → Type 0 where
+  none : CapabilityHeld missing Absent
+  numbered : {bytes : List ℕ} → length bytes ≡ 4 → number (value bytes) ≤ highestHwcapBit → CapabilityHeld (value bytes) (Given (number (value bytes)))
 
 -- "one flat run of 1,024 dependency slots, 16 a feature"; "Unused slots are zero"
 pub record Zeroed (r : Record) : Type 0 where

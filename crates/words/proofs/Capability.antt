@@ -1,12 +1,12 @@
 -- The capability words are exactly the bits of the enabled features that have one. Assumes nothing.
-use Prim.Native.Nat.{ℕ, _+_, _/_, _%_, _^_, _≤_, _<_}
+use Prim.Native.Nat.{ℕ, _+_, _^_, _≤_, _<_}
 use mathlib.Core.Path.{_≡_, refl, sym, ap, subst, _∙_}
 use mathlib.Core.Bool.{Bool, true, false, _&&_}
 use mathlib.Core.List.{List}
 use mathlib.Core.Logic.{_↔_}
 use native.Mathlib.Omega.{arith}
 use borrow.Author.Tests.{ltb-true, lt-ltb, eqb-true, eq-eqb}
-use lib.Dec.{ltb, eqb}
+use lib.Dec.{ltb}
 use Rattle.refusal.specs.Refusal.{Outcome, answer}
 use Rattle.positions.specs.Bits.{bit}
 use Rattle.positions.specs.Below.{some}
