@@ -145,12 +145,12 @@ module _ (property : Property) (r s : Record) (b : ButCells property r s) (free 
 
   same-answers : SameAnswers r s
   same-answers = record {
-    reaches = reach-cells;
-    permits = permitted-cells;
-    enables = enable-cells;
-    byTable = λ table level g. by-table-cells level g table;
-    chains = chain-cells;
-    written = after-chain-cells;
+    reachAlike = reach-cells;
+    permittedAlike = permitted-cells;
+    enabledAlike = enable-cells;
+    byTableAlike = λ table level g. by-table-cells level g table;
+    chainAlike = chain-cells;
+    chainBytesAlike = after-chain-cells;
   }
 
 -- "`isa` filters nothing here"

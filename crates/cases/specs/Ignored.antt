@@ -32,12 +32,12 @@ pub record ButCells (property : Property) (r s : Record) : Type 0 where
 
 -- no call tells two records apart: neither set nor count, neither table nor chain
 pub record SameAnswers (r s : Record) : Type 0 where
-  pub reaches : reachOf r ≡ reachOf s
-  pub permits : (level : ℕ) (g : Grants) → permitted r level g ≡ permitted s level g
-  pub enables : (level : ℕ) (g : Grants) → enable r level g ≡ enable s level g
-  pub byTable : (table : List ℕ) (level : ℕ) (g : Grants) → enableByTable r table level g ≡ enableByTable s table level g
-  pub chains : (level : ℕ) (g : Grants) (i size : ℕ) → chain r level g i size ≡ chain s level g i size
-  pub written : (level : ℕ) (g : Grants) (i : ℕ) (old : List ℕ) → afterChain r level g i old ≡ afterChain s level g i old
+  pub reachAlike : reachOf r ≡ reachOf s
+  pub permittedAlike : (level : ℕ) (g : Grants) → permitted r level g ≡ permitted s level g
+  pub enabledAlike : (level : ℕ) (g : Grants) → enable r level g ≡ enable s level g
+  pub byTableAlike : (table : List ℕ) (level : ℕ) (g : Grants) → enableByTable r table level g ≡ enableByTable s table level g
+  pub chainAlike : (level : ℕ) (g : Grants) (i size : ℕ) → chain r level g i size ≡ chain s level g i size
+  pub chainBytesAlike : (level : ℕ) (g : Grants) (i : ℕ) (old : List ℕ) → afterChain r level g i old ≡ afterChain s level g i old
 
 -- "`hv-support`, `os-support`: .. Only bit 0 (HFSCR, FSCR) counts. Absent and zero differ": two values may differ in the other bits
 pub data ButOtherBits : Cell → Cell → Type 0 where
