@@ -1,3 +1,4 @@
 pub mod BitLaws
 pub mod FormedLaws
 pub mod Formed
+pub mod Before

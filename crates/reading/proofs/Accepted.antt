@@ -19,7 +19,7 @@ use Rattle.reading.specs.Reading.{containersOf, containerChecks, contain
 use Rattle.reading.specs.Accepted.{checksOf, dependenciesOf, NumberForm, FeatureForm, ContainerForm, Accepted}
 use Rattle.reading.proofs.Passed.{holds-true, holds-false, passes-order, passes-cell, passes-carriers}
 
-given-where : (required given : Bool) → T (either (not required) given) → required ≡ true → given ≡ true
+pub given-where : (required given : Bool) → T (either (not required) given) → required ≡ true → given ≡ true
 given-where true given h e = holds-true given h
 given-where false given h e = absurd (false≢true e)
 

@@ -58,7 +58,7 @@ carriers-pass features (n ∷ ns) f =
     (carriers-pass features ns (λ xs m ys e. f (n ∷ xs) m ys (ap (λ (l : List Node). n ∷ l) e)))
 
 -- the checks of one feature
-where-given : (required given : Bool) → (required ≡ true → given ≡ true) → T (either (not required) given)
+pub where-given : (required given : Bool) → (required ≡ true → given ≡ true) → T (either (not required) given)
 where-given true given f = true-holds (f refl)
 where-given false given f = tt
 

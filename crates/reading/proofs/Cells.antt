@@ -10,6 +10,10 @@ use Rattle.nodes.specs.Values.{Value, missing, value, valueOf, cellsOf}
 use Rattle.reading.specs.Features.{countOf, cellIn, featureOf}
 use Rattle.reading.specs.Accepted.{dependenciesOf}
 
+pub number-count : (v : Value) → numberIn (countOf v) ≡ length (cellsOf v)
+number-count missing = refl
+number-count (value bs) = refl
+
 module _ (n : Node) where
   pub cell-read : (p : Property) → cell (featureOf n) p ≡ cellIn n p
   unfolding featureOf
@@ -17,8 +21,4 @@ module _ (n : Node) where
 
   pub count-read : dependencyCount (featureOf n) ≡ length (dependenciesOf n)
   unfolding dependencyCount cellIn
-  count-read = ap numberIn (cell-read Dependencies) ∙ go (valueOf n "dependencies")
-    where
-      go : (v : Value) → numberIn (countOf v) ≡ length (cellsOf v)
-      go missing = refl
-      go (value bs) = refl
+  count-read = ap numberIn (cell-read Dependencies) ∙ number-count (valueOf n "dependencies")
