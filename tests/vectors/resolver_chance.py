@@ -64,7 +64,7 @@ def chance_record(chance, count):
 
 
 def spoil(chance, whole):
-    """The record with one thing changed: mostly so that it is not well formed, sometimes where nobody looks."""
+    """The record with one thing changed: often so that it is not well formed, else within bounds or where nobody looks."""
     at = chance.below(64 if chance.below(4) == 0 else whole.count)
     features, slots = list(whole.features), list(whole.slots)
     choice = chance.below(5)

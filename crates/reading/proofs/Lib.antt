@@ -16,6 +16,7 @@ pub mod Slots
 pub mod Dependencies
 pub mod Formed
 pub mod Capability
+pub mod FeatureBefore
 pub mod Before
 pub mod Example
 pub mod OrderLaws
