@@ -153,7 +153,7 @@ def without_end():
     for length in range(len(whole) + 1):
         for place, text in enumerate((b"aa", b"bb", b"cc")):
             stands = length % 3 == 0 and place < length // 3
-            yield (found(place, whole[:length], text) if stands else absent(whole[:length], text))
+            yield found(place, whole[:length], text) if stands else absent(whole[:length], text)
 
 
 def characters():
