@@ -122,8 +122,11 @@ static bool libfdt_read(const void *fdt, YebkuzanRecord *r)
 
     memset(r, 0, sizeof *r);
     int container = find_container(fdt);
-    if (container < 0 || !text_is(fdt, container, "device_type", "cpu-features")
-        || !text_is(fdt, container, "compatible", container_name))
+    if (container < 0)
+        return false;
+    if (!text_is(fdt, container, "device_type", "cpu-features") && !text_is(fdt, container, "device_type", container_name))
+        return false;
+    if (fdt_stringlist_search(fdt, container, "compatible", container_name) < 0)
         return false;
     const fdt32_t *isa = fdt_getprop(fdt, container, "isa", &length);
     if (isa == NULL || length != 4)

@@ -15,6 +15,7 @@ static YebkuzanRows rows;
 static const YebkuzanGrants all_bits = { { { 0 } }, { { 0 } }, ~UINT64_C(0), ~UINT64_C(0) };
 static uint8_t out[YEBKUZAN_MOST_FEATURES];
 static const uint8_t cells[64];
+static const uint8_t names[] = "ibm,power9-cpu-features\0ibm,powerpc-cpu-features";
 
 /* Each call keeps its arguments and its answer in its own frame, as a caller's does. */
 static volatile uint32_t kept;
@@ -35,6 +36,7 @@ static void *segment_pages(void *unused) { kept = yebkuzan_segment_page_sizes(ce
 static void *pa_features(void *unused) { kept = yebkuzan_pa_features(cells, 64).number; return unused; }
 static void *pi_features(void *unused) { kept = yebkuzan_pi_features(cells, 64).number; return unused; }
 static void *bus_frequency(void *unused) { kept = yebkuzan_bus_frequency(cells, 8).number; return unused; }
+static void *string_place(void *unused) { kept = yebkuzan_string_place(names, sizeof names, names + 24, 24).number; return unused; }
 static void *read_unit(void *unused) { kept = yebkuzan_read_unit(cells, 8).number; return unused; }
 static void *write_unit(void *unused) { kept = yebkuzan_write_unit(255, out, sizeof out).number; return unused; }
 
@@ -94,7 +96,8 @@ int main(int argc, char **argv)
     } calls[] = { { "well_formed", well_formed }, { "permitted", permitted }, { "enable", enable }, { "reach_table", reach_table },
         { "enable_by_table", by_table }, { "chain", chain }, { "words", words }, { "find_property", find_property },
         { "lookup_reason", reason }, { "page_sizes", page_sizes }, { "segment_page_sizes", segment_pages }, { "pa_features", pa_features },
-        { "pi_features", pi_features }, { "bus_frequency", bus_frequency }, { "read_unit", read_unit }, { "write_unit", write_unit } };
+        { "pi_features", pi_features }, { "bus_frequency", bus_frequency }, { "string_place", string_place }, { "read_unit", read_unit },
+        { "write_unit", write_unit } };
     size_t none, most = 0;
 
     if (argc < 2)

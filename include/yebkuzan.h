@@ -43,7 +43,7 @@ extern "C" {
 #define YEBKUZAN_REFUSAL_TOO_MANY 8u        /* too many levels, features or dependencies, or above a table's own maximum */
 #define YEBKUZAN_REFUSAL_REPEATED 9u        /* a thing given twice */
 #define YEBKUZAN_REFUSAL_NOT_FOUND 10u      /* nothing of that name or type */
-#define YEBKUZAN_REFUSAL_PROPERTY_FORM 11u  /* a property missing, of a wrong length, or not the string required */
+#define YEBKUZAN_REFUSAL_PROPERTY_FORM 11u  /* a property missing, of a wrong length, or not of the strings required */
 #define YEBKUZAN_REFUSAL_OUT_OF_RANGE 12u   /* a number outside its range */
 #define YEBKUZAN_REFUSAL_UNKNOWN_PHANDLE 13u /* a dependency on a phandle that no feature carries */
 #define YEBKUZAN_REFUSAL_RECORD_FORM 14u    /* a feature record that is not well formed */
@@ -271,6 +271,11 @@ typedef struct YebkuzanBusFrequency {
     uint64_t frequency;
 } YebkuzanBusFrequency;
 
+typedef struct YebkuzanStringPlace {
+    uint32_t number;
+    size_t place; /* of a string in its list: 0 for the first, 1 for the next; no byte offset */
+} YebkuzanStringPlace;
+
 typedef struct YebkuzanUnit {
     uint32_t number;
     uint32_t unit;
@@ -279,7 +284,9 @@ typedef struct YebkuzanUnit {
 /* The tree */
 
 /*
- * The feature record of a flattened device tree: the node `ibm,powerpc-cpu-features` and its direct children.
+ * The feature record of a flattened device tree: the node `ibm,powerpc-cpu-features` and its direct children. The `device_type` of that
+ * node is one string, `cpu-features` or `ibm,powerpc-cpu-features`, with its zero byte and nothing more; its `compatible` is a list of
+ * strings that has `ibm,powerpc-cpu-features` at any place; its `isa` is one cell. All else is 11, a missing one too.
  *
  * The bytes may be more than the tree's total size; what is behind it is not read. In this order, with place:
  *   header: 1 at 0, 2 at 0, 3 at 4, 1 at 4, 4 at 20, 4 at 24, 5 at 8, 5 at 12;
@@ -389,6 +396,18 @@ YebkuzanPiFeatures yebkuzan_pi_features(const uint8_t *value, size_t value_lengt
 
 /* ibm,extended-bus-frequency: two cells, high first. 11 for any length but 8. */
 YebkuzanBusFrequency yebkuzan_bus_frequency(const uint8_t *value, size_t value_length);
+
+/* String lists */
+
+/*
+ * At which place of a list a string first stands, counted from 0. A list is strings one behind the other, each ended by a zero byte, as
+ * the value of `compatible` is in a node of a tree; this is the way to ask for a name there. A list whose last string lacks its zero byte
+ * contains nothing, and neither does one of no bytes; a zero byte alone is a list of one empty string.
+ *
+ * `text` has the characters without a zero byte, and may be empty: one with a zero byte in it, also at its end, stands nowhere. It is
+ * compared with whole strings, byte by byte. 10, and no other number, where it does not stand in the list.
+ */
+YebkuzanStringPlace yebkuzan_string_place(const uint8_t *list, size_t list_length, const uint8_t *text, size_t text_length);
 
 /* Unit text of a CPU */
 

@@ -1,7 +1,7 @@
 """Faults that are seeded into the model, to show that the differential test finds them."""
 
-from model import record, resolver
-from vectors.wrong_models import absent_is_zero, second_smallest
+from model import record, resolver, strings
+from vectors.wrong_models import absent_is_zero, compatible_first_only, counted_from_1, second_smallest
 
 SUPPORT_BITS = 2 ** resolver.GIVEN_BITS["hv_support"] | 2 ** resolver.GIVEN_BITS["os_support"]
 
@@ -25,6 +25,8 @@ FAULTS = {
     "absent-is-zero": ((record, "feature_of", absent_as_given), (resolver, "is_supported", absent_is_zero)),
     "place-off-by-4": ((record, "read", place_off_by_4),),
     "second-smallest-chain": ((resolver, "first_of", second_smallest),),
+    "place-from-1": ((strings, "place", counted_from_1),),
+    "compatible-first-only": ((record, "is_compatible", compatible_first_only),),
 }
 
 

@@ -25,16 +25,17 @@ sys.path.insert(0, str(pathlib.Path(__file__).resolve().parent.parent))
 
 # Found by the path above.
 from differential import faults, quick, records, stored, trees, values  # noqa: E402
-from model import properties, record, resolver, tree  # noqa: E402
+from model import properties, record, resolver, strings, tree  # noqa: E402
 from vectors.chance import Chance  # noqa: E402
 from vectors.properties import ANSWERS  # noqa: E402
 from vectors.queries import Vector  # noqa: E402
+from vectors.strings import list_and_text  # noqa: E402
 
 SEED = 20240707
 
 # How many cases there are of each kind, and how many in a chunk.
 PLAN = (
-    ("t", 20000, 250),
+    ("t", 21000, 250),
     ("r", 20000, 250),
     ("l", 5000, 1000),
     ("p", 2000, 1000),
@@ -43,6 +44,7 @@ PLAN = (
     ("a", 3000, 1000),
     ("i", 3000, 1000),
     ("f", 1000, 1000),
+    ("m", 6000, 1000),
     ("u", 4000, 1000),
     ("w", 3000, 1000),
 )
@@ -116,6 +118,10 @@ def bytes_case(kind, data):
     return run(data) + struct.pack("<2I%dQ" % len(told), number, len(told), *told)
 
 
+def string_case(data, text):
+    return run(data) + run(text) + struct.pack("<IQ", *strings.place(data, text))
+
+
 def unit_case(unit, buffer):
     number, (length, *later) = properties.write_unit(unit, buffer)
     return struct.pack("<I", unit) + run(buffer) + struct.pack("<2I", number, length) + bytes(later)
@@ -154,6 +160,7 @@ BY_CHANCE = {
     "a": lambda *asked: (bytes_case("a", value) for value in values.attributes("a", *asked)),
     "i": lambda *asked: (bytes_case("i", value) for value in values.attributes("i", *asked)),
     "f": lambda *asked: (bytes_case("f", value) for value in values.frequencies(*asked)),
+    "m": lambda *asked: (string_case(*case) for case in values.string_lists(*asked)),
     "u": lambda *asked: (bytes_case("u", value) for value in values.texts(*asked)),
     "w": lambda *asked: (unit_case(*case) for case in values.units(*asked)),
 }
@@ -187,6 +194,8 @@ def stored_case(kind, data):
         vector = Vector(data[12:])
         lengths = [int.from_bytes(data[at : at + 4], "big") for at in (0, 4, 8)]
         return "l", lookup_case(*[vector.bytes(length) for length in lengths], vector.left)
+    if kind == "m":
+        return "m", string_case(*list_and_text(data))
     if kind == "w":
         return "w", unit_case(int.from_bytes(data[:4], "big"), data[4:])
     return kind, bytes_case(kind, data)

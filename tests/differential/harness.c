@@ -34,7 +34,7 @@ _Static_assert(sizeof(YebkuzanRows) == 512, "a table has no padding");
 
 enum {
     READ, WELL_FORMED, PERMITTED, ENABLE, REACH_TABLE, ENABLE_BY_TABLE, WORDS, CHAIN, FIND_PROPERTY, LOOKUP_REASON, PAGE_SIZES,
-    SEGMENT_SIZES, SEGMENT_PAGE_SIZES, PA_FEATURES, PI_FEATURES, BUS_FREQUENCY, READ_UNIT, WRITE_UNIT, FUNCTIONS
+    SEGMENT_SIZES, SEGMENT_PAGE_SIZES, PA_FEATURES, PI_FEATURES, BUS_FREQUENCY, STRING_PLACE, READ_UNIT, WRITE_UNIT, FUNCTIONS
 };
 
 static const struct {
@@ -57,6 +57,7 @@ static const struct {
     { "pa_features", 1 | 1 << 9 | 1 << 10 | 1 << 11 | 1 << 12 },
     { "pi_features", 1 | 1 << 9 | 1 << 10 | 1 << 11 | 1 << 12 },
     { "bus_frequency", 1 | 1 << 11 },
+    { "string_place", 1 | 1 << 10 },
     { "read_unit", 1 | 1 << 12 | 1 << 20 },
     { "write_unit", 1 | 1 << 18 },
 };
@@ -453,6 +454,25 @@ static void run_bytes(int function, uint32_t (*call)(const uint8_t *, size_t))
     }
 }
 
+/* String lists */
+
+static void run_string_place(void)
+{
+    size_t start = at;
+    Lent list = lend_run(), text = lend_run();
+    YebkuzanStringPlace found = yebkuzan_string_place(list.bytes, list.length, text.bytes, text.length);
+
+    same(STRING_PLACE, "number", found.number, take_number(STRING_PLACE));
+    same(STRING_PLACE, "place", found.place, take64());
+    at = start + sizeof(uint32_t);
+    give_back(STRING_PLACE, list, take(list.length));
+    at += sizeof(uint32_t);
+    give_back(STRING_PLACE, text, take(text.length));
+    at = data_length;
+}
+
+/* Unit text */
+
 static void run_write_unit(void)
 {
     uint32_t unit = take32();
@@ -480,6 +500,7 @@ static void run_case(void)
     case 'a': run_bytes(PA_FEATURES, pa_features); break;
     case 'i': run_bytes(PI_FEATURES, pi_features); break;
     case 'f': run_bytes(BUS_FREQUENCY, bus_frequency); break;
+    case 'm': run_string_place(); break;
     case 'u': run_bytes(READ_UNIT, read_unit); break;
     case 'w': run_write_unit(); break;
     default: fail("no such kind");

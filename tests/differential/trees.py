@@ -103,11 +103,25 @@ def many_features(chance, count):
     return features
 
 
+DEVICE_TYPES = b"cpu-features\0", b"ibm,powerpc-cpu-features\0"
+
+# What may stand beside the container's name in `compatible`.
+OTHER_NAMES = b"\0", b"a\0", b"ibm,power9-cpu-features\0", b"ibm,powerpc-cpu-feature\0", b"\xff\0", *DEVICE_TYPES
+
+
+def good_strings(chance):
+    """The `device_type` and the `compatible` of a container: either one, and names at any place of a list."""
+    names = [chance.choice(OTHER_NAMES) for _ in range(chance.choice((0, 0, 1, 1, 2, 5)))]
+    names.insert(chance.below(len(names) + 1), DEVICE_TYPES[1])
+    return {"device_type": chance.choice(DEVICE_TYPES), "compatible": b"".join(names)}
+
+
 def of_many_features(chance):
     """A container of 0 to 66 features, at any level."""
     most = chance.choice((4, 16, 16, 32, 66))
     count = chance.between(60 if most == 66 else 0, most)
-    whole = container(*many_features(chance, count), isa=chance.choice((3000, 2070, chance.below(2**32))))
+    changes = {"isa": chance.choice((3000, 2070, chance.below(2**32))), **good_strings(chance)}
+    whole = container(*many_features(chance, count), **changes)
     return flattened(chance, root(deep(chance.choice((2, 3, 3, 9, 14, 15, 16)), whole)))
 
 
@@ -140,15 +154,22 @@ def of_levels(chance):
     return flattened(chance, root(*inner))
 
 
+def other_strings(chance, value):
+    """Close to a string list: a string more or less, no zero byte at its end, a byte changed; or missing."""
+    name, at = chance.choice(OTHER_NAMES), chance.below(len(value))
+    changed = value[:at] + chance.choice((b"\0", b"x", bytes([value[at] ^ 1 << chance.below(8)]))) + value[at + 1 :]
+    lists = (None, b"", b"\0", name, name + value, value + name, value + value, value[:-1], value + b"x", value[1:], value[:at], changed)
+    return chance.choice(lists)
+
+
 def of_wrong_container(chance):
-    """A container whose own properties are not as they are to be, or whose name is another."""
-    compatible = b"ibm,powerpc-cpu-features"
-    changes = {
-        "device_type": (None, b"", b"cpu-features\0", b"cpu-features", b"cpu-features\0\0", b"cpu-feature\0"),
-        "compatible": (None, b"\0", compatible + b"\0", compatible, compatible + b"\0b\0", compatible[1:] + b"\0"),
-        "isa": (None, b"", 3000, 3000, b"abc", b"abcde"),
-    }
-    changes = {name: chance.choice(some) for name, some in changes.items() if chance.below(2)}
+    """A container whose own properties are good or close to that, or whose name is another."""
+    changes = {**good_strings(chance), "isa": 3000}
+    strings = ("device_type", "compatible")
+    for name in chance.choice((strings[:1], strings[:1], strings[1:], strings[1:], strings, ())):
+        changes[name] = other_strings(chance, changes[name])
+    if chance.below(6) == 0:
+        changes["isa"] = chance.choice((None, b"", b"abc", b"abcde"))
     whole = container(*many_features(chance, chance.below(3)), **changes)
     if chance.below(4) == 0:
         name = chance.choice((b"ibm,powerpc-cpu-features@0", b"ibm,powerpc-cpu-feature", b"ibm.powerpc-cpu-features"))
@@ -328,7 +349,7 @@ def several(chance):
         of_many_features: 20,
         of_one_fault: 9,
         of_levels: 5,
-        of_wrong_container: 5,
+        of_wrong_container: 10,
         of_bad_names: 4,
         of_many_properties: 2,
         of_tokens: 6,

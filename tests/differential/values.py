@@ -1,7 +1,8 @@
-"""Property blocks, values of tables and unit texts by chance, for the differential test."""
+"""Property blocks, values of tables, string lists and unit texts by chance, for the differential test."""
 
 from vectors.blocks import NOP, prop
 from vectors.properties import GAP, HEX_DIGITS, attributes_random, cells, gaps_random, mutated, segments_random, sizes_random
+from vectors.strings import chance_query, joined
 
 ALL_ONES = 2**32 - 1
 
@@ -47,6 +48,22 @@ def attributes(kind, chance, many):
 def frequencies(chance, many):
     for place in range(many):
         yield chance.bytes(8 if place % 2 else chance.below(17))
+
+
+def string_lists(chance, many):
+    """(list, text), as the stored vectors have them; few bytes of few values; many short strings; any bytes."""
+    for place in range(many):
+        data, text = chance_query(chance)
+        if place % 8 == 5:
+            data = bytes(chance.choice(b"\0\0ab") for _ in range(chance.below(12)))
+            text = bytes(chance.choice(b"\0abab") for _ in range(chance.below(4)))
+        if place % 8 == 6:
+            names = [b"%x" % chance.below(1000) for _ in range(chance.below(400))]
+            data, text = joined(names), chance.choice((*names, b"0"))
+            data = data[: len(data) - chance.choice((0, 0, 0, 1))]
+        if place % 8 == 7:
+            data, text = chance.bytes(chance.below(30)), chance.bytes(chance.below(3))
+        yield data, text
 
 
 def texts(chance, many):

@@ -83,6 +83,29 @@ static void unit_text(void)
     EXPECT(w.number == YEBKUZAN_REFUSAL_BUFFER_LENGTH && w.length == 0 && memcmp(out, "ffxx", 4) == 0);
 }
 
+static void string_lists(void)
+{
+    static const uint8_t list[] = "ibm,power9\0\0ibm,powerpc\0ibm,power9";
+    const uint8_t *text = list;
+    YebkuzanStringPlace p = yebkuzan_string_place(list, sizeof list, text + 12, 11);
+
+    EXPECT(p.number == 0 && p.place == 2);
+    p = yebkuzan_string_place(list, sizeof list, text, 10);
+    EXPECT(p.number == 0 && p.place == 0);
+    p = yebkuzan_string_place(list, sizeof list, text, 0);
+    EXPECT(p.number == 0 && p.place == 1);
+    p = yebkuzan_string_place(list + 11, sizeof list - 11, text, 10);
+    EXPECT(p.number == 0 && p.place == 2);
+    p = yebkuzan_string_place(list, sizeof list, text + 12, 9);
+    EXPECT(p.number == YEBKUZAN_REFUSAL_NOT_FOUND && p.place == 0);
+    p = yebkuzan_string_place(list, sizeof list, text + 12, 12);
+    EXPECT(p.number == YEBKUZAN_REFUSAL_NOT_FOUND && p.place == 0);
+    p = yebkuzan_string_place(list, sizeof list - 1, text + 12, 11);
+    EXPECT(p.number == YEBKUZAN_REFUSAL_NOT_FOUND && p.place == 0);
+    p = yebkuzan_string_place(list, 0, text, 0);
+    EXPECT(p.number == YEBKUZAN_REFUSAL_NOT_FOUND && p.place == 0);
+}
+
 static void properties(void)
 {
     static const uint8_t strings[] = "a\0bc";
@@ -164,6 +187,7 @@ int main(int argc, char **argv)
     sizes();
     segments();
     attributes();
+    string_lists();
     unit_text();
     properties();
     return failures != 0;

@@ -115,12 +115,19 @@ WRONG_HEADERS = [
     ("a buffer that is const", "uint32_t unit, uint8_t *out", "uint32_t unit, const uint8_t *out"),
     ("a length missing", "yebkuzan_read_unit(const uint8_t *text, size_t text_length)", "yebkuzan_read_unit(const uint8_t *text)"),
     ("a length of 32 bits", "size_t tree_length);", "uint32_t tree_length);"),
+    ("a place of 32 bits", "    size_t place;", "    uint32_t place;"),
+    (
+        "two buffers swapped",
+        "const uint8_t *list, size_t list_length, const uint8_t *text, size_t text_length",
+        "const uint8_t *text, size_t text_length, const uint8_t *list, size_t list_length",
+    ),
 ]
 
 # Changes that a C compiler finds by the layout of the structs.
 WRONG_LAYOUTS = [
     ("a field's width", "uint16_t slots[", "uint32_t slots["),
     ("fields swapped", "    uint32_t exponent;\n    uint32_t encoding;", "    uint32_t encoding;\n    uint32_t exponent;"),
+    ("a place of 32 bits", "    size_t place;", "    uint32_t place;"),
     ("a packed struct", "#include <stdint.h>", "#include <stdint.h>\n#pragma pack(1)"),
 ]
 

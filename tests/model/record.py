@@ -1,7 +1,7 @@
-"""The feature record: document 01's section of that name, restated in Python.
+"""The feature record: document 01's section of that name, with what A2 and A3 of document 02 change, restated in Python.
 
 `read` gives (number, place, record) of a lent tree. The faults are a generator in the order of document 01's sentences,
-of which only the first is asked for. Codes such as F5 name readings of document 01.
+of which only the first is asked for. Codes such as F5 name readings of document 01, such as 3c of document 02.
 
 Standard library only, Python 3.9 or later.
 """
@@ -19,14 +19,17 @@ from model.refusals import (
     UNKNOWN_PHANDLE,
     WRONG_LENGTH,
 )
+from model.strings import strings_of
 
 MOST_FEATURES = 64
 MOST_DEPENDENCIES = 16
 HIGHEST_BIT = 63
 ALL_ONES = 2**32 - 1
 
-# "each one string with its zero byte"
-TEXTS = ((b"device_type", b"cpu-features\0"), (b"compatible", b"ibm,powerpc-cpu-features\0"))
+# The strings of the container; document 02, A3: "the binding's own example writes the container's `device_type` with the
+# longer name".
+COMPATIBLE = b"ibm,powerpc-cpu-features"
+DEVICE_TYPES = (b"cpu-features", b"ibm,powerpc-cpu-features")
 
 # "in this property order"
 PROPERTIES = (
@@ -121,6 +124,25 @@ def property_refusal(name, given, earlier):
     return ACCEPTED
 
 
+def is_device_type(value):
+    """Whether a value is "either `device_type` as its only string" (3c)."""
+    return strings_of(value) in [[text] for text in DEVICE_TYPES]
+
+
+def is_compatible(value):
+    """Whether a value has the container's name "at any place" of its list (3c)."""
+    return COMPATIBLE in strings_of(value)
+
+
+def container_refusal(given):
+    """The refusal of the container's own properties: "11 stays for all else", so for one that is missing too."""
+    if not is_device_type(given.get(b"device_type", b"")):
+        return WRONG_LENGTH
+    if not is_compatible(given.get(b"compatible", b"")):
+        return WRONG_LENGTH
+    return ACCEPTED if len(given.get(b"isa", b"")) == 4 else WRONG_LENGTH
+
+
 def faults(nodes, start):
     """(number, place) of the faults of an accepted tree's record, in document 01's order (F2)."""
     found = [node for node in nodes if node.name == tree.CONTAINER]
@@ -131,11 +153,9 @@ def faults(nodes, start):
         yield GIVEN_TWICE, found[1].at
     container = found[0]
     # "checked in that order, 11 at the container's begin token"
-    for name, text in TEXTS:
-        if container.properties.get(name) != text:
-            yield WRONG_LENGTH, container.at
-    if len(container.properties.get(b"isa", b"")) != 4:
-        yield WRONG_LENGTH, container.at
+    number = container_refusal(container.properties)
+    if number:
+        yield number, container.at
     features = children(nodes, container)
     # "The 65th is 8 at its begin token."
     if len(features) > MOST_FEATURES:

@@ -23,12 +23,12 @@ PROGRAM = TESTS.parent / "crates" / "vectors"
 sys.path.insert(0, str(TESTS))
 
 # Found by the path above.
-from vectors import damage, lookups, properties, record_chance, record_faults, records, trees  # noqa: E402
+from vectors import damage, lookups, properties, record_chance, record_faults, records, strings, trees  # noqa: E402
 from vectors import resolver, resolver_chance, resolver_faults, resolver_graphs  # noqa: E402
 
 READER = (records, record_faults, record_chance)
 RESOLVER = (resolver, resolver_faults, resolver_graphs, resolver_chance)
-MODULES = (properties, trees, damage, lookups, *READER, *RESOLVER)
+MODULES = (properties, strings, trees, damage, lookups, *READER, *RESOLVER)
 
 # The most bytes of a vector that the program has room for.
 MOST_BYTES = 70000

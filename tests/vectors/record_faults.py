@@ -65,24 +65,51 @@ def second_containers():
     yield refused(9, container(*named(65), here(bare)))
 
 
-def wrong_texts(text):
-    """What is not the text with its one zero byte."""
+SHORT, LONG = b"cpu-features", b"ibm,powerpc-cpu-features"
+
+
+def without_text(text):
+    """No list that has the text as a string: missing, of no bytes, without its last zero byte, of other strings."""
     return (
         None,
         b"",
         b"\0",
+        b"\0\0",
         text,
-        text + b"\0\0",
-        b"\0" + text + b"\0",
-        text + b"\0" + text + b"\0",
-        b"other\0" + text + b"\0",
+        b"\0" + text,
+        b"other\0" + text,
+        text + b"\0" + text,
+        text + b"\0other",
+        text + b"\0\0x",
         text[:-1] + b"\0",
         text[:-1] + b"\0\0",
         text[1:] + b"\0",
+        text[:4] + b"\0" + text[4:] + b"\0",
         text + b"s\0",
+        b"x" + text + b"\0",
         text.upper() + b"\0",
         text + b" ",
+        text + b" \0",
+        text + b"\n\0",
         b"t" + text[1:] + b"\0",
+        bytes([text[0] ^ 0x80]) + text[1:] + b"\0",
+        text[:-1] + bytes([text[-1] ^ 0x80]) + b"\0",
+        b"other\0another\0",
+    )
+
+
+def with_more(text):
+    """Lists that have the text as a string, and not as their only one."""
+    return (
+        text + b"\0\0",
+        b"\0" + text + b"\0",
+        b"\0\0" + text + b"\0\0",
+        text + b"\0" + text + b"\0",
+        b"other\0" + text + b"\0",
+        text + b"\0other\0",
+        text + b"\0x\0",
+        SHORT + b"\0" + LONG + b"\0",
+        LONG + b"\0" + SHORT + b"\0",
     )
 
 
@@ -91,13 +118,31 @@ NO_CELLS = (b"", b"\0\0\x0b", b"\0\0\0\0\1", b"\0\0\0\1" * 2)
 
 
 def container_properties():
-    """11 at the container's begin token (F3)."""
-    for value in wrong_texts(b"cpu-features"):
-        yield refused(11, here(container(feature("a"), device_type=value)))
-    for value in wrong_texts(b"ibm,powerpc-cpu-features"):
+    """11 at the container's begin token (F3). What is accepted is in vectors/records.py (document 02, A3)."""
+    for text in (SHORT, LONG):
+        for value in (*without_text(text), *with_more(text)):
+            yield refused(11, here(container(feature("a"), device_type=value)))
+    for value in without_text(LONG):
+        for text in (SHORT, LONG):
+            yield refused(11, here(container(feature("a"), device_type=text + b"\0", compatible=value)))
+    # The shorter name is none of `compatible`.
+    for value in (SHORT + b"\0", b"other\0" + SHORT + b"\0", SHORT + b"\0" + LONG, LONG + b"\0" + SHORT):
         yield refused(11, here(container(feature("a"), compatible=value)))
     for value in (None, *NO_CELLS):
         yield refused(11, here(container(feature("a"), isa=value)))
+    # One of the three, beside two that are good in the other way.
+    good = {"device_type": LONG + b"\0", "compatible": b"other\0" + LONG + b"\0", "isa": 2070}
+    for name, values in (
+        ("device_type", (None, LONG, LONG + b"\0\0", good["compatible"])),
+        ("compatible", (None, LONG, b"other\0", LONG + b"\0other")),
+        ("isa", (None, *NO_CELLS)),
+    ):
+        for value in values:
+            yield refused(11, here(container(feature("a"), **{**good, name: value})))
+    # Where all three are good the features decide.
+    for number, changes in ((11, {"isa": None}), (12, {"phandle": 0}), (8, {"dependencies": [1] * 17}), (13, {"dependencies": [1]})):
+        yield refused(number, container(here(feature("a", **changes)), **good))
+    yield refused(9, container(node("a"), here(node("a")), **good))
     yield refused(11, here(node(CONTAINER)))
     yield refused(11, here(container(device_type=b"ibm,powerpc-cpu-features\0", compatible=b"cpu-features\0")))
     # What its parent or its features give does not count for it, nor what it gives for them.

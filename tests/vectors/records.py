@@ -88,7 +88,28 @@ def accepted_features(*features, rows=None):
 
 # The trees that dtc built. The places are those that `fdtdump --debug` prints.
 
+# Of two trees that have the two names of `compatible` in either order (document 02, A3).
+TWO_NAMES = accepted_line(
+    3000,
+    [
+        row(0xD8, LEAST | HWCAP | PHANDLE, 3000, 7, 0, 0, 0, 0, 2, 1),
+        row(0x128, LEAST | DEPENDENCIES, 3000, 6, 0, 0, 0, 0, 0, 0, 0),
+    ],
+)
+
 BUILT = {
+    # Document 02, A3: "the binding's own example writes the container's `device_type` with the longer name".
+    "binding-example": accepted_line(
+        3020,
+        [
+            row(0xCC, LEAST | HWCAP, 3000, 7, 0, 0, 0, 0, 53, 0),
+            row(0x10C, LEAST | OS | HWCAP, 3000, 3, 0, 0, 0, 0, 52, 0),
+            row(0x158, LEAST | HV | OS, 3000, 6, 0, 0, 0, 0, 0, 0),
+            row(0x1A8, LEAST | HV | OS | HWCAP | PHANDLE, 3010, 7, 0, 0, 0, 0, 40, 1),
+            row(0x218, LEAST | OS | FSCR | HWCAP | DEPENDENCIES, 3020, 7, 0, 1, 0, 14, 41, 0, 3),
+        ],
+    ),
+    "binding-example-without-compatible": refused_line(11, 0x4C),
     "dependencies": accepted_line(
         3000,
         [
@@ -100,6 +121,7 @@ BUILT = {
             row(0x238, LEAST | PHANDLE | DEPENDENCIES, 2070, 2, 0, 0, 0, 0, 0, 4, 3, 3, 3),
         ],
     ),
+    "empty-names": accepted_line(3000, [row(0xD0, LEAST, 3000, 6, 0, 0, 0, 0, 0, 0)]),
     "empty-values": refused_line(10, 0x38),
     # Document 01, "Both sides".
     "features": accepted_line(
@@ -122,6 +144,7 @@ BUILT = {
     ),
     "levels-16": refused_line(11, 0x1A0),
     "levels-17": refused_line(8, 0x1B8),
+    "longer-device-type": accepted_line(3000, [row(0xC0, LEAST, 3000, 6, 0, 0, 0, 0, 0, 0)]),
     "many-properties": refused_line(10, 0x38),
     "minimal": refused_line(10, 0x38),
     "names": refused_line(10, 0x38),
@@ -152,6 +175,8 @@ BUILT = {
     "shared-endings": refused_line(10, 0x38),
     "star": refused_line(7, 0x5C),
     "tokens-in-values": refused_line(10, 0x48),
+    "two-names-first": TWO_NAMES,
+    "two-names-second": TWO_NAMES,
 }
 
 
@@ -187,6 +212,49 @@ def containers():
     # A unit address makes it another name (F1).
     yield accepted(node(CONTAINER + "@1"), whole, node(CONTAINER + "@0"), rows=rows)
     yield accepted_features(feature(CONTAINER + "@1"), feature("n" + CONTAINER))
+
+
+def container_strings():
+    """Either `device_type` as its only string; `compatible` at any place of its list (document 02, A3; 3c)."""
+    short, long = b"cpu-features\0", b"ibm,powerpc-cpu-features\0"
+    rows = [(LEAST, 3000, 6, 0, 0, 0, 0, 0, 0)]
+    for device_type in (short, long):
+        for compatible in (
+            long,
+            # First, last and between others.
+            long + b"other\0",
+            b"other\0" + long,
+            b"other\0" + long + b"power9\0",
+            b"a\0b\0c\0d\0e\0f\0g\0h\0" + long,
+            # Beside the shorter name, its own parts and names of which it is a part.
+            short + long,
+            long + short,
+            b"ibm,powerpc-cpu\0cpu-features\0powerpc-cpu-features\0" + long,
+            b"ibm,powerpc-cpu-features2\0xibm,powerpc-cpu-features\0" + long,
+            b"IBM,POWERPC-CPU-FEATURES\0" + long,
+            # More than once.
+            long + long,
+            long + b"other\0" + long,
+            # Beside empty strings, and strings of any bytes.
+            long + b"\0",
+            b"\0" + long,
+            b"\0\0" + long + b"\0\0\0",
+            b"other\0\0" + long,
+            b"\x80 \xff\0" + long + b"\1\0",
+            b"n" * 300 + b"\0" + long,
+            # Past place 255.
+            b"x\0" * 300 + long,
+        ):
+            strings = {"device_type": device_type, "compatible": compatible}
+            yield accepted(container(here(feature("a")), **strings), rows=rows)
+    # In another order of properties, deeper, and where a dependency is resolved.
+    strings = {"device_type": long, "compatible": b"other\0" + long}
+    whole = container(here(feature("a", phandle=1)), here(feature("b", dependencies=[1])), **strings)
+    rows = [(LEAST | PHANDLE, 3000, 6, 0, 0, 0, 0, 0, 1), (LEAST | DEPENDENCIES, 3000, 6, 0, 0, 0, 0, 0, 0, 0)]
+    yield accepted(whole, rows=rows)
+    yield accepted(backwards(whole), rows=rows)
+    yield accepted(deep(15, whole), rows=rows)
+    yield accepted(container(isa=2070, **strings), isa=2070, rows=[])
 
 
 # The features
@@ -456,6 +524,7 @@ def unknown_properties():
 def described():
     """The cases that are described by their nodes."""
     yield from containers()
+    yield from container_strings()
     yield from counts()
     yield from different_names()
     yield from values()

@@ -43,12 +43,16 @@ PROPERTY_CHARACTERS = NODE_CHARACTERS + b"?#"
 
 # The places are those that `fdtdump --debug` prints.
 BUILT = {
+    "binding-example": accepted_line([0x4C]),
+    "binding-example-without-compatible": accepted_line([0x4C]),
     "dependencies": accepted_line([0x40]),
+    "empty-names": accepted_line([0x40]),
     "empty-values": accepted_line([]),
     "features": accepted_line([0x4C]),
     "grandchildren": accepted_line([0x4C]),
     "levels-16": accepted_line([0x1A0]),
     "levels-17": refused_line(8, 0x1B8),
+    "longer-device-type": accepted_line([0x40]),
     "many-properties": accepted_line([]),
     "minimal": accepted_line([]),
     "names": accepted_line([]),
@@ -66,6 +70,8 @@ BUILT = {
     "shared-endings": accepted_line([]),
     "star": refused_line(7, 0x5C),
     "tokens-in-values": accepted_line([]),
+    "two-names-first": accepted_line([0x4C]),
+    "two-names-second": accepted_line([0x4C]),
 }
 
 
