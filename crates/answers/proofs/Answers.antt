@@ -9,13 +9,14 @@ use Rattle.attributes.specs.declared.PaTable.{PaTable}
 use Rattle.attributes.specs.declared.PiTable.{PiTable}
 use Rattle.enabled.specs.Answers.{Members}
 use Rattle.words.specs.Words.{WordValues}
-use Rattle.answers.specs.Answers.{sizesOutcomeC, segmentsOutcomeC, paOutcomeC, piOutcomeC, busOutcomeC, unitOutcomeC, permittedOutcomeC, enabledOutcomeC, reachOutcomeC, writtenOutcomeC, wordsOutcomeC}
+use Rattle.answers.specs.Answers.{sizesOutcomeC, segmentsOutcomeC, paOutcomeC, piOutcomeC, busOutcomeC, unitOutcomeC, stringPlaceOutcomeC, permittedOutcomeC, enabledOutcomeC, reachOutcomeC, writtenOutcomeC, wordsOutcomeC}
 use Rattle.answers.specs.declared.YebkuzanSizes.{YebkuzanSizes}
 use Rattle.answers.specs.declared.YebkuzanSegments.{YebkuzanSegments}
 use Rattle.answers.specs.declared.YebkuzanPaFeatures.{YebkuzanPaFeatures}
 use Rattle.answers.specs.declared.YebkuzanPiFeatures.{YebkuzanPiFeatures}
 use Rattle.answers.specs.declared.YebkuzanBusFrequency.{YebkuzanBusFrequency}
 use Rattle.answers.specs.declared.YebkuzanUnit.{YebkuzanUnit}
+use Rattle.answers.specs.declared.YebkuzanStringPlace.{YebkuzanStringPlace}
 use Rattle.answers.specs.declared.YebkuzanPermitted.{YebkuzanPermitted}
 use Rattle.answers.specs.declared.YebkuzanEnabled.{YebkuzanEnabled}
 use Rattle.answers.specs.declared.YebkuzanReach.{YebkuzanReach}
@@ -39,6 +40,9 @@ same-bus a b e = ap (λ (o : Outcome ℕ). record { number = o .number; frequenc
 
 pub same-unit : (a b : YebkuzanUnit) → unitOutcomeC a ≡ unitOutcomeC b → a ≡ b
 same-unit a b e = ap (λ (o : Outcome ℕ). record { number = o .number; unit = o .value }) e
+
+pub same-string-place : (a b : YebkuzanStringPlace) → stringPlaceOutcomeC a ≡ stringPlaceOutcomeC b → a ≡ b
+same-string-place a b e = ap (λ (o : Outcome ℕ). record { number = o .number; place = o .value }) e
 
 pub same-permitted : (a b : YebkuzanPermitted) → permittedOutcomeC a ≡ permittedOutcomeC b → a ≡ b
 same-permitted a b e = ap (λ (o : Outcome (List ℕ)). record { number = o .number; set = record { words = o .value } }) e

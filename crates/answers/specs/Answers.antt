@@ -1,7 +1,9 @@
 -- What the answers for C say: the number of document 01, and a value.
 use Prim.Native.Nat.{ℕ}
 use mathlib.Core.List.{List}
-use Rattle.refusal.specs.Refusal.{Outcome}
+use Rattle.refusal.specs.Refusal.{Outcome, answer, refuse}
+use Rattle.positions.specs.declared.Position.{Position}
+use Rattle.positions.specs.declared.Position.the-variants.{Nowhere, At}
 use Rattle.sizes.specs.declared.SizeTable.{SizeTable}
 use Rattle.segments.specs.declared.SegmentTable.{SegmentTable}
 use Rattle.attributes.specs.declared.PaTable.{PaTable}
@@ -14,6 +16,7 @@ use Rattle.answers.specs.declared.YebkuzanPaFeatures.{YebkuzanPaFeatures
 use Rattle.answers.specs.declared.YebkuzanPiFeatures.{YebkuzanPiFeatures}
 use Rattle.answers.specs.declared.YebkuzanBusFrequency.{YebkuzanBusFrequency}
 use Rattle.answers.specs.declared.YebkuzanUnit.{YebkuzanUnit}
+use Rattle.answers.specs.declared.YebkuzanStringPlace.{YebkuzanStringPlace}
 use Rattle.answers.specs.declared.YebkuzanPermitted.{YebkuzanPermitted}
 use Rattle.answers.specs.declared.YebkuzanEnabled.{YebkuzanEnabled}
 use Rattle.answers.specs.declared.YebkuzanReach.{YebkuzanReach}
@@ -37,6 +40,14 @@ busOutcomeC t = record { number = t .number; value = t .frequency }
 
 abbrev pub unitOutcomeC : YebkuzanUnit → Outcome ℕ
 unitOutcomeC u = record { number = u .number; value = u .unit }
+
+abbrev pub stringPlaceOutcomeC : YebkuzanStringPlace → Outcome ℕ
+stringPlaceOutcomeC s = record { number = s .number; value = s .place }
+
+-- (A3) a place, or 10: "that it doesn't stand there"
+abbrev pub placeOutcome : Position → Outcome ℕ
+placeOutcome (At place) = answer place
+placeOutcome Nowhere = refuse 0 10
 
 abbrev pub permittedOutcomeC : YebkuzanPermitted → Outcome (List ℕ)
 permittedOutcomeC p = record { number = p .number; value = p .set .words }

@@ -7,8 +7,10 @@ use attributes::PiTable;
 use chain::ChainTold;
 use enabled::Enabled;
 use permitted::PermittedFeatures;
+use positions::Position;
 use positions::Set;
 use reach::ReachTable;
+use refusal::Refusal;
 use segments::SegmentPages;
 use segments::SegmentTable;
 use sizes::SizeTable;
@@ -26,7 +28,7 @@ ghost use Rattle.enabled.specs.Answers.{enabledOutcome};
 ghost use Rattle.reach.specs.Answers.{reachOutcome};
 ghost use Rattle.chain.specs.Chain.{chainOutcome};
 ghost use Rattle.words.specs.Words.{wordsOutcome};
-ghost use Rattle.answers.specs.Answers.{sizesOutcomeC, segmentsOutcomeC, paOutcomeC, piOutcomeC, busOutcomeC, unitOutcomeC, permittedOutcomeC, enabledOutcomeC, reachOutcomeC, writtenOutcomeC, wordsOutcomeC};
+ghost use Rattle.answers.specs.Answers.{sizesOutcomeC, segmentsOutcomeC, paOutcomeC, piOutcomeC, busOutcomeC, unitOutcomeC, stringPlaceOutcomeC, placeOutcome, permittedOutcomeC, enabledOutcomeC, reachOutcomeC, writtenOutcomeC, wordsOutcomeC};
 
 // A number, or 0 with the sizes; zeros beside a number.
 #[repr(C)]
@@ -68,6 +70,13 @@ pub struct YebkuzanBusFrequency {
 pub struct YebkuzanUnit {
     pub number: u32,
     pub unit: u32,
+}
+
+// A number, or 0 with the place of a string in a list; 0 beside a number.
+#[repr(C)]
+pub struct YebkuzanStringPlace {
+    pub number: u32,
+    pub place: usize,
 }
 
 // A number, or 0 with the set of permitted positions; zeros beside a number.
@@ -171,6 +180,21 @@ pub fn of_unit(read: UnitRead) -> YebkuzanUnit
     YebkuzanUnit {
         number: refusal::number(refusal),
         unit: read.number,
+    }
+}
+
+pub fn of_string_place(found: Position) -> YebkuzanStringPlace
+    ensures { λ x. ⌜ stringPlaceOutcomeC x ≡ placeOutcome found ⌝ }
+{
+    match found {
+        Position::At(place) => YebkuzanStringPlace {
+            number: refusal::number(Refusal::None),
+            place,
+        },
+        Position::Nowhere => YebkuzanStringPlace {
+            number: refusal::number(Refusal::NotFound),
+            place: 0,
+        },
     }
 }
 

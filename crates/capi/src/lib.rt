@@ -3,5 +3,6 @@
 mod cpu;
 mod cpu_tables;
 mod resolver;
+mod string_lists;
 mod text;
 mod tree;

@@ -17,6 +17,10 @@ use Rattle.walk.specs.Checked.{noLayout}
 use Rattle.walk.specs.declared.Layout.{Layout}
 use Rattle.walk.specs.Faults.{CheckEnds, answered, headerRefused, walkRefused}
 use Rattle.walk.proofs.CheckEnds.{check-ends, check-place}
+use Rattle.positions.specs.declared.Position.{Position}
+use Rattle.positions.specs.declared.Position.the-variants.{Nowhere, At}
+use Rattle.stringlist.specs.StringList.{stringPlace}
+use Rattle.answers.specs.Answers.{placeOutcome}
 use Rattle.positions.specs.Sets.{setOf, collect, noMembers}
 use Rattle.record.specs.declared.Record.{Record}
 use Rattle.record.specs.Record.{mostFeatures, noFeatures}
@@ -34,8 +38,8 @@ use Rattle.chain.specs.Slots.{slotChain, slotChecks, chainBySlots, afterChainBy
 use Rattle.words.specs.Words.{noWords, words}
 use Rattle.capi.specs.Answers.{formNumber}
 use Rattle.listing.specs.Listing.{lineAt, lineChecks, writeLine, afterLine}
-use Rattle.cases.specs.Ends.{Ends, refused, PlacedEnds, answeredAt, refusedAt, Keeps}
-use Rattle.cases.specs.Demand1.{zeroSet, zeroSeen, zeroMembers, zeroSegments, zeroBytes, Demand1Tree, Demand1Resolver, Demand1Slots, Demand1Value, Demand1Unit, Demand1Line, Demand1}
+use Rattle.cases.specs.Ends.{Ends, answered as whole, refused, PlacedEnds, answeredAt, refusedAt, Keeps}
+use Rattle.cases.specs.Demand1.{zeroSet, zeroSeen, zeroMembers, zeroSegments, zeroBytes, Demand1Tree, Demand1Resolver, Demand1Slots, Demand1List, Demand1Value, Demand1Unit, Demand1Line, Demand1}
 use Rattle.cases.proofs.EndLaws.{checks-end, checks-keep, fault-one-of}
 use Rattle.cases.proofs.TableNumbers.{sizeNumbers, sizes-numbered, segmentNumbers, segments-numbered, attributeNumbers, attributes-numbered}
 use Rattle.cases.proofs.LookupEnds.{of-lookup}
@@ -125,6 +129,14 @@ of-value value = record {
   busEnds = checks-end _ 0 _ _ refl;
 }
 
+-- a list of strings
+of-list : (list text : List ℕ) → Demand1List list text
+of-list list text = record { placeEnds = go (stringPlace list text) }
+  where
+    go : (p : Position) → Ends (10 ∷ []) 0 (placeOutcome p)
+    go (At i) = whole i
+    go Nowhere = refused 10 refl
+
 -- a text, and a number that is written into a buffer
 module _ (text : List ℕ) (n : ℕ) (buffer : List ℕ) where
   hex-ends : (largest : ℕ) → Ends (12 ∷ 20 ∷ []) 0 (readHex largest text)
@@ -168,6 +180,7 @@ demand-1 = record {
   records = of-resolver;
   slots = of-slots;
   lookups = of-lookup;
+  lists = of-list;
   values = of-value;
   texts = of-unit;
   lines = of-line;

@@ -23,12 +23,14 @@ use Rattle.walk.proofs.TotalSize.{changed-behind, more-behind}
 use Rattle.lookup.proofs.LooksUp.{looks-up}
 use Rattle.reading.specs.Reading.{readRecord}
 use Rattle.reading.proofs.Accepts.{read-accepts}
+use Rattle.reading.proofs.ContainerRefused.{container-refused}
 use Rattle.reading.proofs.Faults.{read-ends}
 use Rattle.reading.proofs.Dependencies.{read-holds, read-zeroed, read-dependencies}
 use Rattle.reading.proofs.Capability.{read-capability}
 use Rattle.reading.proofs.TotalSize.{same-tree-read}
 use Rattle.listing.proofs.TotalSize.{same-tree-listing, first-listing}
 use Rattle.cases.specs.Demand2.{Demand2Tree, Demand2Lookup, Demand2Sizes, Demand2Value, Demand2Unit, Demand2}
+use Rattle.cases.proofs.StringLists.{of-list}
 use Rattle.cases.proofs.EndLaws.{checks-answer}
 use Rattle.cases.proofs.TableNumbers.{attributeNumbers, attributes-numbered}
 
@@ -36,6 +38,7 @@ of-tree : (tree : List ℕ) → Demand2Tree readRecord tree
 of-tree tree = record {
   walked = checks-trees tree;
   accepted = read-accepts tree;
+  elseRefused = container-refused tree;
   ends = read-ends tree;
   holds = read-holds tree;
   zeroed = read-zeroed tree;
@@ -105,4 +108,4 @@ of-text : Demand2Unit
 of-text = record { readsBack = number-text-number; enough = eight-bytes; shortest = text-number-text; one = one-shortest }
 
 pub demand-2 : Demand2
-demand-2 = record { trees = of-tree; lookups = of-lookup; values = of-value; texts = of-text }
+demand-2 = record { trees = of-tree; lookups = of-lookup; lists = of-list; values = of-value; texts = of-text }

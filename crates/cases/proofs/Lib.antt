@@ -3,6 +3,7 @@ pub mod TableNumbers
 pub mod LookupEnds
 pub mod BlockEnds
 pub mod Demand1
+mod StringLists
 pub mod Demand2
 pub mod Demand3
 pub mod Cycles

@@ -33,8 +33,8 @@ use Rattle.walk.specs.TotalSize.{SameTree}
 use Rattle.words.specs.Words.{WordValues}
 use Rattle.words.specs.Capability.{CapabilityWords}
 use Rattle.reading.specs.Reading.{readRecord}
-use Rattle.reading.specs.Example.{exampleTree, olderTree, olderRecord}
-use Rattle.reading.proofs.Example.{example-read, older-read}
+use Rattle.reading.specs.Example.{exampleTree, olderTree, olderRecord, secondNameTree, twoTypesTree}
+use Rattle.reading.proofs.Example.{example-read, older-read, second-name-read, two-types-read}
 use Rattle.reading.proofs.Dependencies.{read-holds}
 use Rattle.reading.proofs.Accepts.{read-accepts}
 use Rattle.cases.specs.Cases.{cycle, noGrants}
@@ -65,6 +65,16 @@ module _ (read : List ℕ → Placed Record) (d : (tree : List ℕ) → Demand2T
       ap (λ (p : Placed Record). cell (featureAt (p .value) 0) HwcapBitNr) older-read in
       let same = sym e ∙ h .cells 0 (omega (arith, h .count, k .count)) HwcapBitNr ∙ sym (k .cells 0 (omega arith) HwcapBitNr) ∙ absent in
       let z : _≡_ {A = ℕ} 0 1 = cc in
+      omega arith
+
+  -- one that takes the container's name in `compatible` at place 0 alone, and one that takes a `device_type` with a second string
+  pub first-place-only : (read secondNameTree .number ≡ 0 → ⊥) → ⊥
+  first-place-only f = f (d secondNameTree .accepted .1 (read-accepts secondNameTree .0 (ap (λ (p : Placed Record). p .number) second-name-read)))
+
+  pub second-type : read twoTypesTree .number ≡ 0 → ⊥
+  second-type z =
+      let a = read-accepts twoTypesTree .1 (d twoTypesTree .accepted .0 z) in
+      let k : _≡_ {A = ℕ} 11 0 = ap (λ (p : Placed Record). p .number) (sym two-types-read) ∙ a in
       omega arith
 
   -- one whose answer changes with a byte behind the total size

@@ -45,6 +45,8 @@ use Rattle.reach.specs.Answers.{reachOf, enableByTable}
 use Rattle.chain.specs.Chain.{chain, afterChain}
 use Rattle.chain.specs.Slots.{chainBySlots, afterChainBySlots}
 use Rattle.words.specs.Words.{noWords, words}
+use Rattle.stringlist.specs.StringList.{stringPlace}
+use Rattle.answers.specs.Answers.{placeOutcome}
 use Rattle.capi.specs.Answers.{formNumber}
 use Rattle.capi.specs.Properties.{Part, findProperty}
 use Rattle.listing.specs.Listing.{writeLine, afterLine}
@@ -151,6 +153,10 @@ pub record Demand1Lookup (cpu parent strings name : List ℕ) : Type 0 where
   pub findEnds : Ends (6 ∷ 7 ∷ 9 ∷ 10 ∷ []) noPart (findProperty cpu parent strings name)
   pub found : (reason cpu parent strings name ≡ 0) ↔ (partFound cpu parent strings name .value ≡ [] → ⊥)
 
+-- `string_place`, by the call of C: the place of a string in a list, or 10 where it does not stand there (A3)
+pub record Demand1List (list text : List ℕ) : Type 0 where
+  pub placeEnds : Ends (10 ∷ []) 0 (placeOutcome (stringPlace list text))
+
 -- `page_sizes` and `segment_sizes`, `segment_page_sizes`, `pa_features`, `pi_features` and `bus_frequency`, of a value
 pub record Demand1Value (value : List ℕ) : Type 0 where
   -- "length first (11), maxima (8), then cell by cell, 12 before 19"; of segment sizes "gaps only is 11, after all cell checks"
@@ -185,6 +191,7 @@ pub record Demand1 : Type 0 where
   pub records : (r : Record) (level : ℕ) (g : Grants) → Demand1Resolver r level g
   pub slots : (slots counts : List ℕ) (n : ℕ) (set : List ℕ) (i : ℕ) (buffer : List ℕ) → Demand1Slots slots counts n set i buffer
   pub lookups : (cpu parent strings name : List ℕ) → Demand1Lookup cpu parent strings name
+  pub lists : (list text : List ℕ) → Demand1List list text
   pub values : (value : List ℕ) → Demand1Value value
   pub texts : (text : List ℕ) (n : ℕ) (buffer : List ℕ) → Demand1Unit text n buffer
   pub lines : (tree : List ℕ) (k : ℕ) (buffer : List ℕ) → Demand1Line tree k buffer

@@ -2,13 +2,15 @@
 -- the promises cite. Each request adds its field.
 use Prim.Native.Nat.{ℕ, _-_, _^_, _≤_, _<_, max}
 use mathlib.Core.Path.{_≡_}
-use mathlib.Core.List.{List, _++_, map}
+use mathlib.Core.List.{List, [], _∷_, _++_, map}
 use mathlib.Core.Logic.{_↔_}
 use lib.ListN.{length, take}
-use Rattle.refusal.specs.Refusal.{Outcome, Placed, answer, refuse}
+use Rattle.refusal.specs.Refusal.{Outcome, Placed, answer, refuse, refuseAt, fault}
 use Rattle.refusal.specs.Checks.{firstFault, faultOf}
 use Rattle.cells.specs.Cells.{wordAt, cellsIn}
 use Rattle.cells.specs.Bytes.{Each, IsByte}
+use Rattle.positions.specs.declared.Position.the-variants.{Nowhere, At}
+use Rattle.stringlist.specs.StringList.{NotZero, stringsBytes, AreStrings, StandsFirst, stringsIn, stringPlace}
 use Rattle.unit.specs.Unit.{readUnit, writeUnit, textWritten}
 use Rattle.unit.specs.Shortest.{Shortest}
 use Rattle.sizes.specs.declared.Size.{Size}
@@ -28,14 +30,15 @@ use Rattle.lookup.specs.Lookup.{lookup, reason}
 use Rattle.lookup.specs.LooksUp.{LooksUp}
 use Rattle.record.specs.declared.Record.{Record}
 use Rattle.record.specs.declared.Property.the-variants.{HwcapBitNr}
-use Rattle.record.specs.Record.{featureAt}
+use Rattle.record.specs.Record.{noFeatures, featureAt}
 use Rattle.record.specs.Cells.{cell}
 use Rattle.nodes.specs.Nodes.{nodeAt}
 use Rattle.nodes.specs.Values.{valueOf}
-use Rattle.reading.specs.Reading.{readRecord}
-use Rattle.reading.specs.Accepted.{containerOf, featuresOf, Accepted}
+use Rattle.reading.specs.Reading.{containersOf, readRecord}
+use Rattle.reading.specs.Accepted.{containerOf, featuresOf, ContainerStrings, Accepted}
 use Rattle.reading.specs.Ends.{ReadEnds}
 use Rattle.reading.specs.Resolved.{Holds, CapabilityHeld, Zeroed, Resolved}
+use Rattle.answers.specs.Answers.{placeOutcome}
 use Rattle.listing.specs.Listing.{listing}
 
 -- "The record read .. [is that] which the Devicetree Specification and the bindings define, as document 01 condenses them": what a
@@ -45,6 +48,9 @@ pub record Demand2Tree (read : List ℕ → Placed Record) (tree : List ℕ) : T
   pub walked : checkTree tree .number ≡ 0 ↔ ((header tree .number ≡ 0) × Tree (blocksOf tree .end) (withoutNopTokens (allTokens tree)))
   -- then one container, with its properties, and features, with theirs, whose phandles and dependencies are as document 01 has them
   pub accepted : read tree .number ≡ 0 ↔ Accepted tree
+  -- (A3) "11 stays for all else": one container, whose strings are not a container's, is 11 at its begin token
+  pub elseRefused : checkTree tree .number ≡ 0 → length (containersOf tree (blocksOf tree)) ≡ 1 → (ContainerStrings (containerOf tree) → ⊥)
+      → read tree ≡ refuseAt noFeatures (fault 11 (containerOf tree .at))
   -- a tree that is not so is refused by the header, at the first faulty token, or by the first check that does not hold
   pub ends : ReadEnds tree (read tree)
   -- the record holds the cells of the container and of each feature, and which were given; what is not used is zero; each dependency is
@@ -66,6 +72,25 @@ pub record Demand2Tree (read : List ℕ → Placed Record) (tree : List ℕ) : T
 -- a property of a CPU node: where it is found, and else the reason
 pub record Demand2Lookup (cpu parent strings name : List ℕ) : Type 0 where
   pub looksUp : LooksUp cpu parent strings name (lookup cpu parent strings name) (reason cpu parent strings name)
+
+-- (A3) a string in a list, as it is answered of any list and text
+pub record Demand2List (find : List ℕ → List ℕ → Outcome ℕ) (list text : List ℕ) : Type 0 where
+  -- "at which place of the list the string first stands, counted from 0, or that it doesn't stand there"
+  pub stands : (i : ℕ) → (find list text ≡ answer i) ↔ StandsFirst list text (At i)
+  pub standsNot : (find list text ≡ refuse 0 10) ↔ StandsFirst list text Nowhere
+  -- strings without zero bytes, each with its zero byte, are the strings of their bytes, and no others are
+  pub joined : (strings : List (List ℕ)) → Each (Each NotZero) strings → stringsIn (stringsBytes strings) ≡ strings
+  pub once : (a b : List (List ℕ)) → AreStrings list a → AreStrings list b → a ≡ b
+  -- "a list whose last string lacks its zero byte contains nothing", and neither does a list of no bytes
+  pub cutShort : (b : ℕ) → NotZero b → find (list ++ b ∷ []) text ≡ refuse 0 10
+  pub empty : find [] text ≡ refuse 0 10
+  -- a text with a zero byte stands nowhere
+  pub zeroText : (Each NotZero text → ⊥) → find list text ≡ refuse 0 10
+  -- what follows the place changes nothing; nor does a string that stands in the list, put behind it once more, change the place of any
+  pub kept : (before after : List (List ℕ)) → Each (Each NotZero) before → Each (Each NotZero) after
+      → (i : ℕ) → find (stringsBytes before) text ≡ answer i → find (stringsBytes (before ++ after)) text ≡ answer i
+  pub repeated : (strings : List (List ℕ)) (t : List ℕ) → Each (Each NotZero) strings → (i : ℕ) → find (stringsBytes strings) t ≡ answer i
+      → find (stringsBytes (strings ++ t ∷ [])) text ≡ find (stringsBytes strings) text
 
 -- sizes in plain cells, by how one cell reads: accepted exactly when the bytes are those of 1 to 16 cells with sizes within bounds, strictly
 -- ascending, and these are then answered, each in its place; else the first check that does not hold refuses
@@ -109,9 +134,14 @@ pub record Demand2Unit : Type 0 where
       → Shortest (2 ^ 32 - 1) n (textWritten n buffer)
   pub one : (n : ℕ) (text other : List ℕ) → n < 2 ^ 32 → Shortest (2 ^ 32 - 1) n text → Shortest (2 ^ 32 - 1) n other → text ≡ other
 
+-- what `yebkuzan_string_place` answers
+abbrev pub findString : List ℕ → List ℕ → Outcome ℕ
+findString list text = placeOutcome (stringPlace list text)
+
 -- all of it, for all bytes and numbers
 pub record Demand2 : Type 0 where
   pub trees : (tree : List ℕ) → Demand2Tree readRecord tree
   pub lookups : (cpu parent strings name : List ℕ) → Demand2Lookup cpu parent strings name
+  pub lists : (list text : List ℕ) → Demand2List findString list text
   pub values : (value : List ℕ) → Demand2Value value
   pub texts : Demand2Unit

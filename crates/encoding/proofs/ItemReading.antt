@@ -8,12 +8,13 @@ use Rattle.cells.specs.Cells.{cellAt}
 use Rattle.cells.specs.Bytes.{cellBytes, Each, Stands}
 use Rattle.cells.proofs.Standing.{stands-take, stands-first, stands-after}
 use Rattle.cells.proofs.Bytes.{length-cell, stands-cell}
+use Rattle.stringlist.specs.StringList.{NotZero}
 use Rattle.strings.specs.Strings.{Text, ended}
 use Rattle.tokens.specs.Steps.{padded}
 use Rattle.tokens.specs.Tokens.{beginNode, endNode, property, nop, end, tokens}
 use Rattle.tokens.proofs.Stepping.{step-begin, step-end-node, step-property, step-nop, step-end, property-whole}
 use Rattle.tokens.proofs.TokenList.{tokens-step}
-use Rattle.encoding.specs.Items.{Item, nopItem, beginItem, endNodeItem, propertyItem, endItem, itemBytes, itemSize, itemToken, NotZero, Fills, Writable, NotEnd}
+use Rattle.encoding.specs.Items.{Item, nopItem, beginItem, endNodeItem, propertyItem, endItem, itemBytes, itemSize, itemToken, Fills, Writable, NotEnd}
 use Rattle.encoding.proofs.Sizes.{padded-low}
 use Rattle.encoding.proofs.TextReading.{stands-text}
 

@@ -7,12 +7,12 @@ use native.Mathlib.Omega.{arith}
 use lib.ListN.{length, length-append}
 use Rattle.cells.specs.Bytes.{Each, Stands}
 use Rattle.cells.proofs.Standing.{stands-first, stands-after}
+use Rattle.stringlist.specs.StringList.{NotZero, stringsBytes}
 use Rattle.strings.specs.Strings.{ended, sameBytes, textAt}
 use Rattle.strings.proofs.Strings.{same-true, same-refl, same-same}
 use Rattle.names.specs.Names.{either}
 use Rattle.tokens.specs.Steps.{pick}
-use Rattle.encoding.specs.Items.{NotZero}
-use Rattle.encoding.specs.StringsBlock.{stringsBytes, listed, offsetIn, withName, withNames}
+use Rattle.encoding.specs.StringsBlock.{listed, offsetIn, withName, withNames}
 use Rattle.encoding.proofs.TextReading.{stands-text}
 
 -- a name is one of these

@@ -5,11 +5,12 @@ use mathlib.Core.List.{List}
 use Prim.Native.Nat.{ℕ, _+_}
 use Rattle.cells.specs.Bytes.{Each}
 use Rattle.cells.proofs.Lists.{each-implies, each-map}
+use Rattle.stringlist.specs.StringList.{NotZero}
 use Rattle.strings.specs.Strings.{Text, ended, unended, textAt}
 use Rattle.header.specs.declared.Blocks.{Blocks}
 use Rattle.properties.specs.Properties.{nameAt}
 use Rattle.walk.specs.Walk.{nameIn, treeTokens}
-use Rattle.encoding.specs.Items.{Item, wholeBlock, itemTokens, NotZero, Writable, NotEnd}
+use Rattle.encoding.specs.Items.{Item, wholeBlock, itemTokens, Writable, NotEnd}
 use Rattle.encoding.specs.StringsBlock.{propertyNames, characters, Ended, NameEnds, withCharacters}
 use Rattle.encoding.specs.TreeItems.{StructureIs}
 use Rattle.encoding.proofs.Renaming.{names-whole, names-renamed, whole-renamed, writable-renamed, not-end-renamed, ReadAs, tokens-renamed}

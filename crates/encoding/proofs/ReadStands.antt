@@ -12,9 +12,10 @@ use Rattle.cells.specs.Cells.{cellAt}
 use Rattle.cells.specs.Bytes.{IsByte, cellBytes, Each, Stands}
 use Rattle.cells.proofs.Standing.{stands-taken, stands-joined}
 use Rattle.cells.proofs.Bytes.{length-cell, cell-stands}
+use Rattle.stringlist.specs.StringList.{NotZero}
 use Rattle.strings.specs.Strings.{Text, ended, unended, onto, textOf, textAt}
 use Rattle.tokens.specs.Steps.{padded}
-use Rattle.encoding.specs.Items.{Item, nopItem, beginItem, endNodeItem, propertyItem, endItem, itemBytes, itemSize, NotZero, Writable}
+use Rattle.encoding.specs.Items.{Item, nopItem, beginItem, endNodeItem, propertyItem, endItem, itemBytes, itemSize, Writable}
 use Rattle.encoding.proofs.Sizes.{padded-low, padded-fits}
 
 -- what a run of bytes begins with

@@ -5,12 +5,13 @@ use Prim.Native.Nat.{ℕ, _+_, _≤_}
 use lib.ListN.{length}
 use Rattle.cells.specs.Bytes.{Each, Stands}
 use Rattle.cells.proofs.Lists.{each-implies}
+use Rattle.stringlist.specs.StringList.{NotZero, stringsBytes}
 use Rattle.strings.specs.Strings.{ended}
 use Rattle.header.specs.declared.Blocks.{Blocks}
 use Rattle.properties.specs.Properties.{nameAt}
 use Rattle.walk.specs.Walk.{nameIn, treeTokens}
-use Rattle.encoding.specs.Items.{Item, wholeBlock, itemTokens, NotZero, Writable, NotEnd}
-use Rattle.encoding.specs.StringsBlock.{stringsBytes, offsetIn, propertyNames, stringsOf, renamed}
+use Rattle.encoding.specs.Items.{Item, wholeBlock, itemTokens, Writable, NotEnd}
+use Rattle.encoding.specs.StringsBlock.{offsetIn, propertyNames, stringsOf, renamed}
 use Rattle.encoding.specs.TreeItems.{TreeHolds}
 use Rattle.encoding.proofs.ReadBack.{block-read}
 use Rattle.encoding.proofs.NameOffsets.{Listed, names-listed, each-names, name-read}

@@ -7,8 +7,8 @@ use borrow.Author.Tests.{ne-eqb}
 use lib.ListN.{length, take, drop, length-append}
 use lib.Seq.{take-add}
 use Rattle.cells.specs.Bytes.{Each, Stands}
+use Rattle.stringlist.specs.StringList.{NotZero}
 use Rattle.strings.specs.Strings.{ended, textOf, textAt}
-use Rattle.encoding.specs.Items.{NotZero}
 
 pub text-first : (name rest : List ℕ) → Each NotZero name → textOf (name ++ 0 ∷ rest) ≡ ended name
 unfolding textOf

@@ -4,6 +4,7 @@ use mathlib.Core.Path.{_≡_}
 use mathlib.Core.List.{List, [], _∷_, _++_}
 use lib.ListN.{length, replicate}
 use Rattle.cells.specs.Bytes.{IsByte, IsCell, cellBytes, Each}
+use Rattle.stringlist.specs.StringList.{NotZero}
 use Rattle.strings.specs.Strings.{Text, ended}
 use Rattle.tokens.specs.Steps.{padded}
 use Rattle.tokens.specs.Tokens.{Token, beginNode, endNode, property, nop, end}
@@ -60,10 +61,6 @@ module _ {N : Type 0} where
   unfoldable pub itemTokens : (N → Text) → ℕ → List (Item N) → List Token
   itemTokens names at [] = []
   itemTokens names at (item ∷ items) = itemToken names at item ∷ itemTokens names (at + itemSize item) items
-
--- a byte that does not end a name
-abbrev pub NotZero : ℕ → Type 0
-NotZero b = b ≡ 0 → ⊥
 
 -- padding that fills n bytes up to a multiple of four, and goes no further
 abbrev pub Fills : ℕ → List ℕ → Type 0

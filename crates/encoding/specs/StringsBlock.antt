@@ -8,11 +8,6 @@ use Rattle.names.specs.Names.{either}
 use Rattle.tokens.specs.Steps.{pick}
 use Rattle.encoding.specs.Items.{Item, nopItem, beginItem, endNodeItem, propertyItem, endItem}
 
--- the bytes of a strings block: each name with its zero byte
-unfoldable pub stringsBytes : List (List ℕ) → List ℕ
-stringsBytes [] = []
-stringsBytes (name ∷ names) = name ++ 0 ∷ stringsBytes names
-
 -- a name is among others
 unfoldable pub listed : List ℕ → List (List ℕ) → Bool
 listed name [] = false

@@ -6,8 +6,9 @@ use lib.ListN.{length, take, drop}
 use Rattle.cells.specs.Bytes.{Each, Stands}
 use Rattle.header.specs.declared.Blocks.{Blocks}
 use Rattle.walk.specs.Walk.{nameIn, treeTokens}
+use Rattle.stringlist.specs.StringList.{stringsBytes}
 use Rattle.encoding.specs.Items.{Item, encode, wholeBlock, itemTokens, Writable, NotEnd, InBytes}
-use Rattle.encoding.specs.StringsBlock.{stringsBytes, propertyNames, stringsOf, withOffsets, NameEnds}
+use Rattle.encoding.specs.StringsBlock.{propertyNames, stringsOf, withOffsets, NameEnds}
 
 -- a tree is written from items: their bytes begin the structure block, and their strings the strings block
 pub record TreeHolds (tree : List ℕ) (b : Blocks) (items : List (Item (List ℕ))) : Type 0 where

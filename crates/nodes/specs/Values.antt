@@ -7,7 +7,7 @@ use lib.Dec.{eqb}
 use lib.ListN.{length}
 use Rattle.characters.specs.Characters.{bytes}
 use Rattle.cells.specs.Cells.{cellAt, cellsIn}
-use Rattle.strings.specs.Strings.{ended, isString}
+use Rattle.strings.specs.Strings.{ended}
 use Rattle.names.specs.Names.{sameText}
 use Rattle.positions.specs.Bits.{bit}
 use Rattle.tokens.specs.Steps.{pick}
@@ -36,10 +36,10 @@ abbrev pub isGiven : Value → Bool
 isGiven missing = false
 isGiven (value bs) = true
 
--- "each one string with its zero byte"
-abbrev pub isText : String → Value → Bool
-isText text missing = false
-isText text (value bs) = isString bs (bytes text)
+-- its bytes; none where it is missing
+abbrev pub bytesOf : Value → List ℕ
+bytesOf missing = []
+bytesOf (value bs) = bs
 
 -- "required, one cell"
 abbrev pub isCell : Value → Bool

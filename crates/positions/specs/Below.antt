@@ -32,3 +32,8 @@ fromBefore (At i) = At (suc i)
 unfoldable pub firstThat : ℕ → (ℕ → Bool) → Position
 firstThat zero p = Nowhere
 firstThat (suc n) p = cond (p zero) (At zero) (fromBefore (firstThat n (λ i. p (suc i))))
+
+-- there is one
+abbrev pub isSomewhere : Position → Bool
+isSomewhere Nowhere = false
+isSomewhere (At i) = true

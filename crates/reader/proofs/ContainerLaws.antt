@@ -1,12 +1,11 @@
--- A refused reading, a property that is a string, and a container's own properties. Assumes nothing.
+-- A refused reading, the bytes of a property's value, and a container's own properties. Assumes nothing.
 use mathlib.Core.Path.{_≡_, refl, sym, ap, subst, _∙_}
-use mathlib.Core.Bool.{Bool, true, false, false≢true}
+use mathlib.Core.Bool.{Bool, true, false, _&&_, false≢true}
 use mathlib.Core.List.{List, [], _∷_, _++_}
 use Prim.Native.Nat.{ℕ, _+_, _-_}
-use Prim.Native.String.{String}
 use native.Mathlib.Omega.{arith}
 use lib.ListN.{take, drop, replicate}
-use Rattle.strings.specs.Strings.{isString}
+use Rattle.container.specs.Container.{isContainerType, isContainerCompatible}
 use Rattle.characters.specs.Characters.{bytes}
 use Rattle.record.specs.declared.Feature.{Feature}
 use Rattle.record.specs.declared.Record.{Record}
@@ -18,12 +17,12 @@ use Rattle.tokens.specs.Steps.{pick}
 use Rattle.tokens.specs.Tokens.{Token}
 use Rattle.feature.specs.declared.CellRead.{CellRead}
 use Rattle.nodes.specs.Nodes.{Node}
-use Rattle.nodes.specs.Values.{Value, missing, value, valueIn, valueOf, isText, isCell}
+use Rattle.nodes.specs.Values.{Value, missing, value, valueIn, valueOf, bytesOf, isCell}
 use Rattle.reading.specs.Features.{requiredChecks}
 use Rattle.reading.specs.Reading.{containerProperties}
 use Rattle.reading.specs.Ends.{FirstFailing}
 use Rattle.nodes.specs.Parts.{Lies}
-use Rattle.reader.specs.Parts.{cellFault, noCell, CellIs, Judged, holdsText, isContainer, ContainerIs}
+use Rattle.reader.specs.Parts.{cellFault, noCell, CellIs, Judged, isContainer, ContainerIs}
 use Rattle.reading.proofs.CheckLaws.{fail-left, fail-right, fail-here}
 use Rattle.reader.proofs.JudgedLaws.{judged-check}
 
@@ -35,20 +34,15 @@ pub none-is : {f : Feature} → f ≡ noFeature → none f ≡ noFeatures
 unfolding noFeatures
 none-is e = rw e
 
--- a value that is a string
-module _ (text : List ℕ) {v : Value} where
-  pub text-missing : v ≡ missing → false ≡ holdsText text v
-  text-missing e = rw e
+-- the bytes of a value
+module _ {v : Value} where
+  pub part-missing : v ≡ missing → [] ≡ bytesOf v
+  part-missing e = rw e
 
-  pub text-given : {tree : List ℕ} {from size : ℕ} {r : Bool} → Lies tree v from size → r ≡ isString (take (from + size - from) (drop from tree)) text
-      → r ≡ holdsText text v
-  text-given {from = from} {size = size} g e =
+  pub part-given : {tree : List ℕ} {from size : ℕ} → Lies tree v from size → take (from + size - from) (drop from tree) ≡ bytesOf v
+  part-given {from = from} {size = size} g =
       let n : from + size - from ≡ size = omega arith in
-      rw (g .bytes) (rw n at e)
-
-text-same : (text : String) (v : Value) → isText text v ≡ holdsText (bytes text) v
-text-same text missing = refl
-text-same text (value bs) = refl
+      rw (g .bytes, n)
 
 -- a property that is needed, of one cell
 fault-needed : (v : Value) → cellFault true v ≡ pick (isCell v) 0 11
@@ -60,10 +54,10 @@ needed-judged at v e = let k = e ∙ fault-needed v in judged-check (isCell v) 1
 
 -- the container's properties, in order
 abbrev typed : Node → Bool
-typed c = isText "cpu-features" (valueOf c "device_type")
+typed c = isContainerType (bytesOf (valueOf c "device_type"))
 
 abbrev compatible : Node → Bool
-compatible c = isText "ibm,powerpc-cpu-features" (valueOf c "compatible")
+compatible c = isContainerCompatible (bytesOf (valueOf c "compatible"))
 
 abbrev checkOf : Node → Bool → List (Check Fault)
 checkOf c holds = check holds (fault 11 (c .at)) ∷ []
@@ -79,34 +73,25 @@ module _ (ts : List Token) where
   abbrev Reads : CellRead → Type 0
   Reads r = (c : Node) → Same c → ContainerIs c r
 
-  text-is : (text name : String) (c : Node) → Same c → {d : Bool} → d ≡ holdsText (bytes text) (valueIn (bytes name) ts) → isText text (valueOf c name) ≡ d
-  text-is text name c same e = text-same text (valueOf c name) ∙ ap (holdsText (bytes text)) (same (bytes name)) ∙ sym e
-
-  -- both texts
-  pub other-type : {d : Bool} → d ≡ holdsText (bytes "cpu-features") (valueIn (bytes "device_type") ts) → d ≡ false → false ≡ isContainer ts
+  -- both strings
+  pub other-type : {d : Bool} {bs : List ℕ} → d ≡ isContainerType bs → bs ≡ bytesOf (valueIn (bytes "device_type") ts) → d ≡ false → false ≡ isContainer ts
   unfolding isContainer
-  other-type e z = rw (sym e ∙ z)
+  other-type e k z = rw (← k, sym e ∙ z)
 
-  pub right-type : {d g : Bool} → d ≡ holdsText (bytes "cpu-features") (valueIn (bytes "device_type") ts) → d ≡ true
-      → g ≡ holdsText (bytes "ibm,powerpc-cpu-features") (valueIn (bytes "compatible") ts)
+  pub right-type : {d g : Bool} {bs cs : List ℕ} → d ≡ isContainerType bs → bs ≡ bytesOf (valueIn (bytes "device_type") ts) → d ≡ true
+      → g ≡ isContainerCompatible cs → cs ≡ bytesOf (valueIn (bytes "compatible") ts)
       → g ≡ isContainer ts
   unfolding isContainer
-  right-type e z k = rw (sym e ∙ z) k
+  right-type e k z f l = rw (← k, sym e ∙ z, ← l) f
 
-  type-is : (c : Node) → Same c → typed c ≡ holdsText (bytes "cpu-features") (valueIn (bytes "device_type") ts)
-  type-is c same = text-is "cpu-features" "device_type" c same refl
-
-  compatible-is : (c : Node) → Same c → compatible c ≡ holdsText (bytes "ibm,powerpc-cpu-features") (valueIn (bytes "compatible") ts)
-  compatible-is c same = text-is "ibm,powerpc-cpu-features" "compatible" c same refl
-
-  both : (c : Node) → Same c → isContainer ts ≡ pick (typed c) (compatible c) false
+  both : (c : Node) → Same c → isContainer ts ≡ (typed c && compatible c)
   unfolding isContainer
-  both c same = rw (type-is c same, compatible-is c same)
+  both c same = rw (← same (bytes "device_type"), ← same (bytes "compatible"))
 
   pub not-container : isContainer ts ≡ false → {r : CellRead} → r ≡ noCell PropertyForm → Reads r
   not-container z q c same = bad-container c (go (typed c) refl (compatible c) refl (sym (both c same) ∙ z)) q
     where
-      go : (d : Bool) → typed c ≡ d → (g : Bool) → compatible c ≡ g → pick d g false ≡ false → FirstFailing (containerProperties c) 11 (c .at)
+      go : (d : Bool) → typed c ≡ d → (g : Bool) → compatible c ≡ g → (d && g) ≡ false → FirstFailing (containerProperties c) 11 (c .at)
       go false e g k z = fail-left (checkOf c (typed c)) _ (fail-here 11 (c .at) e)
       go true e g k z =
           fail-right (checkOf c (typed c)) _ (e, tt) (fail-left (checkOf c (compatible c)) _ (fail-here 11 (c .at) (k ∙ z)))
@@ -124,6 +109,6 @@ module _ (ts : List Token) where
         isa = λ x. m .cell (sym (m .fault) ∙ x) .number;
       }
     where
-      go : (d g : Bool) → pick d g false ≡ true → (d ≡ true) × (g ≡ true)
+      go : (d g : Bool) → (d && g) ≡ true → (d ≡ true) × (g ≡ true)
       go true g e = (refl, e)
       go false g e = absurd (false≢true e)

@@ -9,6 +9,7 @@ use lib.Dec.{leb}
 use lib.ListN.{length}
 use Rattle.cells.specs.Cells.{cellAt}
 use Rattle.tokens.specs.Steps.{pick}
+use Rattle.positions.specs.Below.{isSomewhere}
 use Rattle.positions.specs.declared.Position.{Position}
 use Rattle.positions.specs.declared.Position.the-variants.{Nowhere, At}
 use Rattle.positions.proofs.FirstLaws.{IsFirst}
@@ -20,7 +21,7 @@ use Rattle.feature.specs.Phandles.{isAt}
 use Rattle.feature.proofs.RefusalLaws.{first-zero}
 use Rattle.nodes.specs.Nodes.{Node}
 use Rattle.nodes.specs.Values.{Value, missing, value, isGiven, number}
-use Rattle.reading.specs.Dependencies.{carrier, isSomewhere}
+use Rattle.reading.specs.Dependencies.{carrier}
 use Rattle.reading.specs.Features.{some, carries, isPhandle, isRepeated, phandleChecks}
 use Rattle.reader.specs.Parts.{noCell, cellFault, Holds, CellIs, atMost, Judged, ArePhandles, PhandleIs}
 use Rattle.reader.proofs.JudgedLaws.{judged-both}

@@ -1,7 +1,7 @@
 -- What the parts of the reader's code answer. The promises of the public functions rest on `Reading`, not on this file.
 use Prim.Native.Nat.{ℕ, _+_, _*_, _≤_, _<_}
 use mathlib.Core.Path.{_≡_}
-use mathlib.Core.Bool.{Bool, true, false, cond}
+use mathlib.Core.Bool.{Bool, true, false, cond, _&&_}
 use mathlib.Core.List.{List, [], _++_, map}
 use lib.ListN.{length, getD, set}
 use Rattle.tokens.specs.Tokens.{Token}
@@ -10,7 +10,7 @@ use Rattle.walk.specs.Walk.{treeTokens}
 use Rattle.header.specs.Header.{largestTree}
 use Rattle.cells.specs.Cells.{cellAt}
 use Rattle.cells.specs.Rows.{padded}
-use Rattle.strings.specs.Strings.{isString}
+use Rattle.container.specs.Container.{isContainerType, isContainerCompatible}
 use Rattle.record.specs.declared.Record.{Record}
 use Rattle.record.specs.declared.Feature.{Feature}
 use Rattle.record.specs.Record.{mostFeatures, mostDependencies, slotCount, highestHfscrBit, highestFscrBit, highestHwcapBit, noFeature, noFeatures}
@@ -31,7 +31,7 @@ use Rattle.feature.specs.declared.BitCells.{BitCells}
 use Rattle.feature.specs.declared.FeatureCells.{FeatureCells}
 use Rattle.reading.specs.Reading.{containerProperties, countChecks, recordOf}
 use Rattle.nodes.specs.Parts.{Alike, IsNode, AreNodes}
-use Rattle.nodes.specs.Values.{Value, missing, value, valueIn, valueOf, isGiven, number, cellsOf}
+use Rattle.nodes.specs.Values.{Value, missing, value, valueIn, valueOf, bytesOf, isGiven, number, cellsOf}
 use Rattle.reading.specs.Features.{inOrder, nameChecks, numberChecks, bitChecks, phandleChecks, dependenciesChecks, featureChecks, featureOf}
 use Rattle.reading.specs.Dependencies.{carrierChecks, Resolution, unknown, found, positionsOf, slotsOf}
 use Rattle.reading.specs.Ends.{AllHold, FirstFailing}
@@ -197,15 +197,10 @@ pub record SlotsAre (nodes : List Node) (slots : List ℕ) (r : Finding) : Type 
 abbrev pub ResolvesAll : List ℕ → Blocks → ChildPlaces → List ℕ → List ℕ → Finding → Type 0
 ResolvesAll tree b fs phandles slots r = (nodes : List Node) → Known tree b fs phandles nodes → SlotsAre nodes slots r
 
--- "each one string with its zero byte"
-abbrev pub holdsText : List ℕ → Value → Bool
-holdsText text missing = false
-holdsText text (value bs) = isString bs text
-
 -- a container's `device_type` and `compatible`
 unfoldable pub isContainer : List Token → Bool
 isContainer ts =
-    pick (holdsText (bytes "cpu-features") (valueIn (bytes "device_type") ts)) (holdsText (bytes "ibm,powerpc-cpu-features") (valueIn (bytes "compatible") ts)) false
+    isContainerType (bytesOf (valueIn (bytes "device_type") ts)) && isContainerCompatible (bytesOf (valueIn (bytes "compatible") ts))
 
 -- a container's own properties: what their checks find, and its `isa` where they find nothing
 pub record ContainerIs (c : Node) (r : CellRead) : Type 0 where

@@ -30,11 +30,10 @@ ghost use Rattle.refusal.specs.Refusal.{numberOf, fault, placed, refuseAt};
 ghost use Rattle.record.specs.Record.{noFeatures};
 ghost use Rattle.walk.specs.Checked.{checkTree};
 ghost use Rattle.walk.specs.Walk.{treeTokens};
-ghost use Rattle.nodes.specs.Values.{valueIn};
+ghost use Rattle.nodes.specs.Values.{valueIn, bytesOf};
 ghost use Rattle.reading.specs.Reading.{readAccepted, readRecord};
 ghost use Rattle.reader.specs.Outcome.{readOutcome};
 ghost use Rattle.reader.specs.Parts.{
-  holdsText,
   isContainer,
   ReadsContainer,
   SomeContainer,
@@ -50,18 +49,17 @@ pub struct Read {
     pub record: Record,
 }
 
-// Whether a property is a string with its zero byte.
-fn has_text(tree: &[u8], b: Blocks, first: usize, name: &[u8], text: &[u8]) -> bool
+// The bytes of a property's value; none where it is missing.
+fn value_part<'a>(tree: &'a [u8], b: Blocks, first: usize, name: &[u8]) -> &'a [u8]
     requires { ⌜ b .end ≤ length-of (now tree) ⌝ }
-    ensures { λ r.
-        ⌜ r ≡ holdsText (now (text .entry)) (valueIn (now (name .entry)) (treeTokens (now (tree .entry)) b first)) ⌝ }
+    ensures { λ r. ⌜ now r ≡ bytesOf (valueIn (now (name .entry)) (treeTokens (now (tree .entry)) b first)) ⌝ }
 {
     let held = value_of(tree, b, first, name);
     match held {
-        Held::Missing => false,
+        Held::Missing => &tree[..0],
         Held::At { from, length } => {
             let end = from + length;
-            strings::is_string(&tree[from..end], text)
+            &tree[from..end]
         }
     }
 }
@@ -71,10 +69,10 @@ fn is_container(tree: &[u8], b: Blocks, first: usize) -> bool
     requires { ⌜ b .end ≤ length-of (now tree) ⌝ }
     ensures { λ r. ⌜ r ≡ isContainer (treeTokens (now (tree .entry)) b first) ⌝ }
 {
-    if !has_text(tree, b, first, b"device_type", b"cpu-features") {
+    if !container::is_container_type(value_part(tree, b, first, b"device_type")) {
         return false;
     }
-    has_text(tree, b, first, b"compatible", b"ibm,powerpc-cpu-features")
+    container::is_container_compatible(value_part(tree, b, first, b"compatible"))
 }
 
 // The `isa` of a container whose contents begin at `first`, after its `device_type` and `compatible`.

@@ -12,7 +12,8 @@ use Rattle.names.specs.Names.{sameText, either}
 use Rattle.record.specs.Record.{mostFeatures, mostDependencies, highestHfscrBit, highestFscrBit, highestHwcapBit}
 use Rattle.walk.specs.Checked.{checkTree}
 use Rattle.nodes.specs.Nodes.{Node, nodeAt, children}
-use Rattle.nodes.specs.Values.{Value, valueOf, isGiven, isCell, isCellOrMissing, isCells, number, lowBit}
+use Rattle.container.proofs.Exactly.{type-exactly, compatible-exactly}
+use Rattle.nodes.specs.Values.{Value, valueOf, bytesOf, isGiven, isCell, isCellOrMissing, isCells, number, lowBit}
 use Rattle.reading.specs.Features.{inOrder, some, nameChecks, featureChecks, isPhandle, isRepeated}
 use Rattle.reading.specs.Dependencies.{carrierChecks}
 use Rattle.reading.specs.Reading.{containersOf, containerChecks, containerProperties, countChecks, readChecks}
@@ -66,8 +67,10 @@ module _ (start : ℕ) (containers : List Node) (p : Passes (readChecks start co
       let most = leb→le (length containers) 1 (q .1 .0) in (
         omega arith,
         record {
-          deviceType = holds-true _ (q .1 .1 .0);
-          compatible = holds-true _ (q .1 .1 .1 .0);
+          strings = record {
+            deviceType = type-exactly (bytesOf (valueOf c "device_type")) .0 (holds-true _ (q .1 .1 .0));
+            compatible = compatible-exactly (bytesOf (valueOf c "compatible")) .0 (holds-true _ (q .1 .1 .1 .0));
+          };
           isa = holds-true _ (q .1 .1 .1 .1 .0);
           few = leb→le (length fs) mostFeatures (q .1 .1 .1 .1 .1 .0);
           features = λ xs n ys e.

@@ -12,6 +12,7 @@ use Rattle.refusal.specs.Checks.{Check}
 use Rattle.refusal.proofs.Checks.{Passes, passes, passes-join}
 use Rattle.header.specs.Header.{blocksOf}
 use Rattle.names.specs.Names.{either}
+use Rattle.positions.specs.Below.{isSomewhere}
 use Rattle.record.specs.declared.Record.{Record}
 use Rattle.record.specs.Record.{mostFeatures, mostDependencies, highestHfscrBit, highestFscrBit, highestHwcapBit, noFeatures}
 use Rattle.walk.specs.Checked.{layoutOf}
@@ -19,14 +20,15 @@ use Rattle.walk.specs.Faults.{CheckEnds, answered, headerRefused, walkRefused}
 use Rattle.walk.specs.declared.Layout.{Layout}
 use Rattle.walk.proofs.CheckEnds.{check-ends}
 use Rattle.nodes.specs.Nodes.{Node, nodeAt, children}
-use Rattle.nodes.specs.Values.{Value, valueOf, isGiven, number, lowBit}
+use Rattle.container.proofs.Exactly.{type-exactly, compatible-exactly}
+use Rattle.nodes.specs.Values.{Value, valueOf, bytesOf, isGiven, number, lowBit}
 use Rattle.reading.specs.Features.{inOrder, nameChecks, requiredChecks, optionalChecks, numberChecks, bitChecks, phandleChecks, dependenciesChecks, featureChecks}
-use Rattle.reading.specs.Dependencies.{isSomewhere, carrier, cellChecks, carrierChecks}
+use Rattle.reading.specs.Dependencies.{carrier, cellChecks, carrierChecks}
 use Rattle.reading.specs.Reading.{containersOf, containerChecks, containerProperties, countChecks, readChecks, recordOf, afterWalk, readRecord}
 use Rattle.reading.specs.Accepted.{containerOf, checksOf, dependenciesOf, NumberForm, GivenWhere, FeatureForm, ContainerForm, Accepted}
 use Rattle.reading.proofs.Ends.{read-accepted}
 
-true-holds : {b : Bool} → b ≡ true → T b
+pub true-holds : {b : Bool} → b ≡ true → T b
 true-holds h = subst T (sym h) tt
 
 false-holds : {b : Bool} → b ≡ false → T (not b)
@@ -103,7 +105,9 @@ checks-pass start containers one form =
     let least = le→leb 1 (length containers) (omega arith) in
     let most = le→leb (length containers) 1 (omega arith) in
     let most-features = le→leb (length fs) mostFeatures (form .few) in
-    let h : Passes front = (least, (most, (true-holds (form .deviceType), (true-holds (form .compatible), (true-holds (form .isa), (most-features, tt)))))) in
+    let typed = true-holds (type-exactly (bytesOf (valueOf c "device_type")) .1 (form .strings .deviceType)) in
+    let compatible = true-holds (compatible-exactly (bytesOf (valueOf c "compatible")) .1 (form .strings .compatible)) in
+    let h : Passes front = (least, (most, (typed, (compatible, (true-holds (form .isa), (most-features, tt)))))) in
     let k = passes-join front names h (order-passes nameChecks [] fs (λ xs n ys e. (false-holds (form .features xs n ys e .nameOnce), tt))) in
     let l = passes-join (front ++ names) features k (order-passes featureChecks [] fs (λ xs n ys e. feature-passes xs n (form .features xs n ys e))) in
     passes-join (front ++ names ++ features) (carrierChecks fs fs) l (carriers-pass fs fs (form .found))

@@ -1,51 +1,51 @@
--- The same of a tree: it was accepted before A2 exactly when it is accepted now and no user feature lacks a capability bit, and then what is
--- read is as it was. Assumes nothing.
-use Prim.Native.Nat.{ℕ, zero, suc, _+_}
-use mathlib.Core.Path.{_≡_, refl, sym, ap, _∙_}
+-- What A2 and A3 withdraw of document 01's reading, and nothing else: a tree was accepted before exactly when it is accepted now, no user
+-- feature lacks a capability bit (A2), and the container's strings are document 01's (A3); what is read is then as it was. Assumes nothing.
+use Prim.Native.Nat.{ℕ, _<_}
+use mathlib.Core.Path.{_≡_, refl, sym, ap, subst, _∙_}
+use mathlib.Core.Bool.{Bool, true, false, false≢true}
 use mathlib.Core.List.{List, [], _∷_, _++_, map}
 use mathlib.Core.Logic.{_↔_}
+use Prim.Native.String.{String}
 use native.Mathlib.Omega.{arith}
 use lib.ListN.{length}
-use Rattle.refusal.specs.Refusal.{Fault, fault, Placed, placed, refuseAt}
-use Rattle.refusal.specs.Checks.{Check, firstFault}
-use Rattle.refusal.proofs.Checks.{Passes, NumberedAt, passes, passes-both, passes-join, answered-at}
+use Rattle.refusal.specs.Refusal.{Fault, fault, Placed}
+use Rattle.refusal.specs.Checks.{Check, check}
+use Rattle.refusal.proofs.Checks.{Passes, passes-both, passes-join}
 use Rattle.cells.specs.Bytes.{Each}
 use Rattle.cells.specs.Rows.{padded}
+use Rattle.characters.specs.Characters.{bytes}
+use Rattle.strings.specs.Strings.{sameBytes}
+use Rattle.strings.proofs.Strings.{same-true, same-refl}
+use Rattle.stringlist.specs.StringList.{stringsBytes, AreStrings}
+use Rattle.container.specs.Container.{ContainerType, shortType, ContainerCompatible}
+use Rattle.container.proofs.Exactly.{type-exactly, compatible-exactly}
 use Rattle.record.specs.declared.Record.{Record}
 use Rattle.record.specs.Record.{mostFeatures, slotCount, noFeature, noFeatures}
-use Rattle.walk.specs.declared.Layout.{Layout}
-use Rattle.header.specs.Header.{blocksOf}
-use Rattle.walk.specs.Checked.{layoutOf, checkTree}
-use Rattle.walk.specs.Faults.{CheckEnds, answered, headerRefused, walkRefused}
-use Rattle.walk.proofs.CheckEnds.{check-ends}
-use Rattle.nodes.specs.Nodes.{Node, nodeAt, children}
-use Rattle.nodes.specs.Values.{value, valueOf, number, cellsOf}
-use Rattle.reading.specs.Features.{inOrder, nameChecks, featureChecks}
-use Rattle.reading.specs.Dependencies.{cellChecks, carrierChecks, Resolution, unknown, found, slotsOf}
-use Rattle.reading.specs.Reading.{containerChecks, containerProperties, countChecks, readChecks, recordWith, recordBy, recordOf, containersOf, afterWalk, readRecord}
+use Rattle.walk.specs.Checked.{checkTree}
+use Rattle.nodes.specs.Nodes.{Node, children}
+use Rattle.nodes.specs.Values.{Value, missing, value, valueOf, bytesOf, isCell, number}
+use Rattle.reading.specs.Features.{inOrder, featureChecks}
+use Rattle.reading.specs.Dependencies.{Resolution, unknown, found, slotsOf}
+use Rattle.reading.specs.Reading.{containerProperties, readChecks, recordWith, recordBy, recordOf, afterWalk, readRecord}
 use Rattle.reading.specs.Accepted.{containerOf, featuresOf}
+use Rattle.reading.proofs.Passed.{holds-true}
+use Rattle.reading.proofs.Accepts.{true-holds}
 use Rattle.reading.proofs.FeatureBefore.{HasCapability, featureChecksBefore, then-now, now-then, featureBefore, feature-before}
+use Rattle.reading.proofs.ReadBy.{Rules, RulesNumbered, readBy, accepted-parts, accepted-alike}
 
--- a reading by checks of its features and by the features themselves: `readRecord`, and the reading of then
-module _ (checks : List Node → Node → List (Check Fault)) where
-  abbrev checksBy : ℕ → List Node → List (Check Fault)
-  checksBy start containers =
-      let features = children (nodeAt containers 0) in
-      containerChecks start containers
-      ++ containerProperties (nodeAt containers 0)
-      ++ countChecks features
-      ++ inOrder nameChecks [] features
-      ++ inOrder checks [] features
-      ++ carrierChecks features features
+-- before A3: "each one string with its zero byte"
+abbrev isText : String → Value → Bool
+isText text missing = false
+isText text (value bs) = sameBytes bs (bytes text ++ 0 ∷ [])
 
-  abbrev readBy : (Node → Record) → List ℕ → Placed Layout → Placed Record
-  readBy recordBy tree checked = elim (checked .number) [
-    | zero ↦
-        let containers = containersOf tree (checked .value .blocks) in
-        firstFault (refuseAt noFeatures) (checksBy (checked .value .blocks .start) containers) (placed (recordBy (nodeAt containers 0)))
-    | suc n ↦ refuseAt noFeatures (fault (checked .number) (checked .place))
-  ]
+abbrev pub propertiesBefore : Node → List (Check Fault)
+propertiesBefore c =
+    check (isText "cpu-features" (valueOf c "device_type")) (fault 11 (c .at))
+    ∷ check (isText "ibm,powerpc-cpu-features" (valueOf c "compatible")) (fault 11 (c .at))
+    ∷ check (isCell (valueOf c "isa")) (fault 11 (c .at))
+    ∷ []
 
+-- before A2: the record as it was read
 unfoldable pub recordBefore : Node → Record
 recordBefore container = elim (slotsOf (children container) (children container)) [
   | unknown ↦ noFeatures
@@ -57,46 +57,68 @@ recordBefore container = elim (slotsOf (children container) (children container)
   }
 ]
 
+-- the rules of now, those before A3, and those before A2
+abbrev rulesNow : Rules
+rulesNow = record { properties = containerProperties; features = featureChecks; recordRead = recordOf }
+
+abbrev rulesBeforeStrings : Rules
+rulesBeforeStrings = record { properties = propertiesBefore; features = featureChecks; recordRead = recordOf }
+
+abbrev rulesBefore : Rules
+rulesBefore = record { properties = propertiesBefore; features = featureChecksBefore; recordRead = recordBefore }
+
+unfoldable pub readBeforeStrings : List ℕ → Placed Record
+readBeforeStrings tree = readBy rulesBeforeStrings tree (checkTree tree)
+
 unfoldable pub readBefore : List ℕ → Placed Record
-readBefore tree = readBy featureChecksBefore recordBefore tree (checkTree tree)
+readBefore tree = readBy rulesBefore tree (checkTree tree)
 
--- no check has number 0, so that all hold of what is not refused
-numbered-join : (cs ds : List (Check Fault)) → NumberedAt cs → NumberedAt ds → NumberedAt (cs ++ ds)
-numbered-join [] ds h k = k
-numbered-join (c ∷ cs) ds h k = (h .0, numbered-join cs ds (h .1) k)
+numbered-now : RulesNumbered rulesNow
+unfolding featureChecks
+numbered-now = record { properties = λ c. omega arith; features = λ before n. omega arith }
 
-numbered-cells : (at : ℕ) (features : List Node) (ps : List ℕ) → NumberedAt (cellChecks at features ps)
-unfolding cellChecks
-numbered-cells at features [] = tt
-numbered-cells at features (p ∷ ps) = (omega arith, numbered-cells at features ps)
+numbered-strings : RulesNumbered rulesBeforeStrings
+unfolding featureChecks
+numbered-strings = record { properties = λ c. omega arith; features = λ before n. omega arith }
 
-numbered-carriers : (features ns : List Node) → NumberedAt (carrierChecks features ns)
-unfolding carrierChecks
-numbered-carriers features [] = tt
-numbered-carriers features (n ∷ ns) =
-    numbered-join (cellChecks (n .at) features (cellsOf (valueOf n "dependencies"))) (carrierChecks features ns)
-    (numbered-cells (n .at) features (cellsOf (valueOf n "dependencies"))) (numbered-carriers features ns)
+numbered-then : RulesNumbered rulesBefore
+numbered-then = record { properties = λ c. omega arith; features = λ before n. omega arith }
 
-numbered-order : (checks : List Node → Node → List (Check Fault)) → ((before : List Node) (n : Node) → NumberedAt (checks before n))
-    → (before ns : List Node) → NumberedAt (inOrder checks before ns)
-unfolding inOrder
-numbered-order checks f before [] = tt
-numbered-order checks f before (n ∷ ns) =
-    numbered-join (checks before n) (inOrder checks (before ++ n ∷ []) ns) (f before n) (numbered-order checks f (before ++ n ∷ []) ns)
+-- A3: the container's strings are document 01's
+pub record OneString (c : Node) : Type 0 where
+  pub deviceType : bytesOf (valueOf c "device_type") ≡ bytes "cpu-features" ++ 0 ∷ []
+  pub compatible : bytesOf (valueOf c "compatible") ≡ bytes "ibm,powerpc-cpu-features" ++ 0 ∷ []
 
-module _ (checks : List Node → Node → List (Check Fault)) (numbered : (before : List Node) (n : Node) → NumberedAt (checks before n)) where
-  numbered-by : (start : ℕ) (containers : List Node) → NumberedAt (checksBy checks start containers)
-  numbered-by start containers =
-      let c = nodeAt containers 0 in
-      let fs = children c in
-      let front = containerChecks start containers ++ containerProperties c ++ countChecks fs in
-      let names = inOrder nameChecks [] fs in
-      let h : NumberedAt front = omega arith in
-      let k = numbered-join front names h (numbered-order nameChecks (λ before n. omega arith) [] fs) in
-      let l = numbered-join (front ++ names) (inOrder checks [] fs) k (numbered-order checks numbered [] fs) in
-      numbered-join (front ++ names ++ inOrder checks [] fs) (carrierChecks fs fs) l (numbered-carriers fs fs)
+text-exactly : (text : String) (v : Value) → (0 < length (bytes text ++ 0 ∷ [])) → (isText text v ≡ true) ↔ (bytesOf v ≡ bytes text ++ 0 ∷ [])
+text-exactly text missing l = (λ h. absurd (false≢true h), λ e. let z = ap length e in absurd (omega arith))
+text-exactly text (value bs) l = (same-true bs (bytes text ++ 0 ∷ []), λ e. rw e (same-refl (bytes text ++ 0 ∷ [])))
 
--- the checks of all features, then and now
+alone : AreStrings (bytes "ibm,powerpc-cpu-features" ++ 0 ∷ []) (bytes "ibm,powerpc-cpu-features" ∷ [])
+unfolding stringsBytes
+alone = record { joined = refl; plain = (omega arith, tt) }
+
+module _ (c : Node) where
+  strings-then : Passes (propertiesBefore c) → OneString c
+  strings-then p = record {
+    deviceType = text-exactly "cpu-features" (valueOf c "device_type") (omega arith) .0 (holds-true _ (p .0));
+    compatible = text-exactly "ibm,powerpc-cpu-features" (valueOf c "compatible") (omega arith) .0 (holds-true _ (p .1 .0));
+  }
+
+  properties-now : Passes (propertiesBefore c) → Passes (containerProperties c)
+  properties-now p =
+      let s = strings-then p in
+      let t = subst ContainerType (sym (s .deviceType)) shortType in
+      let one : ContainerCompatible (bytes "ibm,powerpc-cpu-features" ++ 0 ∷ []) = record { before = []; after = []; strings = alone } in
+      let k = subst ContainerCompatible (sym (s .compatible)) one in
+      (true-holds (type-exactly (bytesOf (valueOf c "device_type")) .1 t), (true-holds (compatible-exactly (bytesOf (valueOf c "compatible")) .1 k), p .1 .1))
+
+  properties-then : Passes (containerProperties c) → OneString c → Passes (propertiesBefore c)
+  properties-then p s = (
+    true-holds (text-exactly "cpu-features" (valueOf c "device_type") (omega arith) .1 (s .deviceType)),
+    (true-holds (text-exactly "ibm,powerpc-cpu-features" (valueOf c "compatible") (omega arith) .1 (s .compatible)), p .1 .1),
+  )
+
+-- A2: the checks of all features, then and now
 order-then : (before ns : List Node) → Passes (inOrder featureChecksBefore before ns) → Passes (inOrder featureChecks before ns) × Each HasCapability ns
 unfolding inOrder
 order-then before [] p = (tt, tt)
@@ -113,27 +135,6 @@ order-now before (n ∷ ns) p h =
     let q = passes-both (featureChecks before n) (inOrder featureChecks (before ++ n ∷ []) ns) p in
     passes-join (featureChecksBefore before n) (inOrder featureChecksBefore (before ++ n ∷ []) ns) (now-then before n (q .0) (h .0))
     (order-now (before ++ n ∷ []) ns (q .1) (h .1))
-
--- those of the features among all of a reading, and others in their place
-module _ (start : ℕ) (containers : List Node) where
-  abbrev features : List Node
-  features = children (nodeAt containers 0)
-
-  abbrev before-them : List (Check Fault)
-  before-them = containerChecks start containers ++ containerProperties (nodeAt containers 0) ++ countChecks features ++ inOrder nameChecks [] features
-
-  module _ (one : List Node → Node → List (Check Fault)) (p : Passes (checksBy one start containers)) where
-    first : Passes (before-them ++ inOrder one [] features)
-    first = passes-both (before-them ++ inOrder one [] features) (carrierChecks features features) p .0
-
-    in-order : Passes (inOrder one [] features)
-    in-order = passes-both before-them (inOrder one [] features) first .1
-
-    others-in-order : (other : List Node → Node → List (Check Fault)) → Passes (inOrder other [] features) → Passes (checksBy other start containers)
-    others-in-order other h =
-        passes-join (before-them ++ inOrder other [] features) (carrierChecks features features)
-        (passes-join before-them (inOrder other [] features) (passes-both before-them (inOrder one [] features) first .0) h)
-        (passes-both (before-them ++ inOrder one [] features) (carrierChecks features features) p .1)
 
 record-before : (c : Node) → recordOf c ≡ recordBefore c
 unfolding recordOf recordBefore recordWith
@@ -157,71 +158,61 @@ record-before c = go (slotsOf (children c) (children c))
       slots = padded slotCount 0 slots;
     }
 
--- what is accepted was walked
-walk-accepts : (checks : List Node → Node → List (Check Fault)) (recordBy : Node → Record) (tree : List ℕ) (x : Placed Layout)
-    → readBy checks recordBy tree x .number ≡ 0 → x .number ≡ 0
-walk-accepts checks recordBy tree x z = go (x .number) refl
-  where
-    go : (k : ℕ) → x .number ≡ k → x .number ≡ 0
-    go zero e = e
-    go (suc k) e = let q : suc k ≡ 0 = rw e at z in absurd (omega arith)
-
-numbered-then : (before : List Node) (n : Node) → NumberedAt (featureChecksBefore before n)
-numbered-then before n = omega arith
-
-numbered-now : (before : List Node) (n : Node) → NumberedAt (featureChecks before n)
-unfolding featureChecks
-numbered-now before n = omega arith
-
 module _ (tree : List ℕ) where
-  abbrev containers : List Node
-  containers = containersOf tree (blocksOf tree)
+  abbrev numberRead : Placed Record → ℕ
+  numberRead r = r .number
 
-  abbrev start : ℕ
-  start = blocksOf tree .start
+  now : readRecord tree ≡ readBy rulesNow tree (checkTree tree)
+  unfolding readRecord readChecks
+  now = refl
 
-  abbrev readThen : Placed Layout → Placed Record
-  readThen = readBy featureChecksBefore recordBefore tree
+  -- A3: accepted before, accepted with the same record
+  pub read-before-strings : readBeforeStrings tree .number ≡ 0 → readRecord tree ≡ readBeforeStrings tree
+  unfolding readBeforeStrings
+  read-before-strings z =
+      let p = accepted-parts tree rulesBeforeStrings numbered-strings z in
+      now ∙ accepted-alike tree rulesBeforeStrings numbered-strings z rulesNow (properties-now (containerOf tree) (p .propertiesHold)) (p .featuresHold) refl
 
-  accepted-then : {x : Placed Layout} → CheckEnds tree x → x .number ≡ 0 → readThen x .number ≡ 0 → (afterWalk tree x ≡ readThen x) × Each HasCapability (featuresOf tree)
-  unfolding layoutOf readChecks
-  accepted-then (answered h w) y z =
-      let c = containerOf tree in
-      let then-checks = checksBy featureChecksBefore start containers in
-      let p = answered-at noFeatures (recordBefore c) then-checks (numbered-by featureChecksBefore numbered-then start containers) z in
-      let held = order-then [] (featuresOf tree) (in-order start containers featureChecksBefore p) in
-      let q = others-in-order start containers featureChecksBefore p featureChecks (held .0) in (
-        passes (refuseAt noFeatures) (readChecks start containers) (placed (recordOf c)) q
-            ∙ ap placed (record-before c)
-            ∙ sym (passes (refuseAt noFeatures) then-checks (placed (recordBefore c)) p),
-        held .1,
-      )
-  accepted-then (headerRefused h l m q) y z = absurd (omega arith)
-  accepted-then (walkRefused h f) y z = absurd (omega (arith, f .least))
+  back-strings : readRecord tree .number ≡ 0 → OneString (containerOf tree) → readBeforeStrings tree .number ≡ 0
+  unfolding readBeforeStrings
+  back-strings z s =
+      let y = ap numberRead (sym now) ∙ z in
+      let p = accepted-parts tree rulesNow numbered-now y in
+      ap numberRead (accepted-alike tree rulesNow numbered-now y rulesBeforeStrings (properties-then (containerOf tree) (p .propertiesHold) s) (p .featuresHold) refl) ∙ y
 
-  accepted-now : {x : Placed Layout} → CheckEnds tree x → x .number ≡ 0 → afterWalk tree x .number ≡ 0 → Each HasCapability (featuresOf tree) → readThen x .number ≡ 0
-  unfolding layoutOf readChecks
-  accepted-now (answered h w) y z has =
-      let p = answered-at noFeatures (recordOf (containerOf tree)) (readChecks start containers) (numbered-by featureChecks numbered-now start containers) z in
-      let q = others-in-order start containers featureChecks p featureChecksBefore
-      (order-now [] (featuresOf tree) (in-order start containers featureChecks p) has) in
-      ap (λ (r : Placed Record). r .number)
-      (passes (refuseAt noFeatures) (checksBy featureChecksBefore start containers) (placed (recordBefore (containerOf tree))) q)
-  accepted-now (headerRefused h l m q) y z has = absurd (omega arith)
-  accepted-now (walkRefused h f) y z has = absurd (omega (arith, f .least))
+  one-string : readBeforeStrings tree .number ≡ 0 → OneString (containerOf tree)
+  unfolding readBeforeStrings
+  one-string z = strings-then (containerOf tree) (accepted-parts tree rulesBeforeStrings numbered-strings z .propertiesHold)
 
-  both : readBefore tree .number ≡ 0 → (readRecord tree ≡ readBefore tree) × Each HasCapability (featuresOf tree)
-  unfolding readBefore readRecord
-  both z = accepted-then (check-ends tree) (walk-accepts featureChecksBefore recordBefore tree (checkTree tree) z) z
+  pub accepted-before-strings : readBeforeStrings tree .number ≡ 0 ↔ ((readRecord tree .number ≡ 0) × OneString (containerOf tree))
+  accepted-before-strings = (λ z. (ap numberRead (read-before-strings z) ∙ z, one-string z), λ h. back-strings (h .0) (h .1))
 
-  back-then : readRecord tree .number ≡ 0 → Each HasCapability (featuresOf tree) → readBefore tree .number ≡ 0
-  unfolding readBefore readRecord readChecks
-  back-then z has = accepted-now (check-ends tree) (walk-accepts featureChecks recordOf tree (checkTree tree) z) z has
-
-  -- a tree that was accepted is accepted, with the same record
+  -- A2 and A3: the same
   pub read-before : readBefore tree .number ≡ 0 → readRecord tree ≡ readBefore tree
-  read-before z = both z .0
+  unfolding readBefore
+  read-before z =
+      let p = accepted-parts tree rulesBefore numbered-then z in
+      now
+      ∙ accepted-alike tree rulesBefore numbered-then z rulesNow (properties-now (containerOf tree) (p .propertiesHold)) (order-then [] (featuresOf tree) (p .featuresHold) .0)
+      (record-before (containerOf tree))
 
-  -- accepted before: accepted, and no capability bit missing
-  pub accepted-before : readBefore tree .number ≡ 0 ↔ ((readRecord tree .number ≡ 0) × Each HasCapability (featuresOf tree))
-  accepted-before = (λ z. (ap (λ (r : Placed Record). r .number) (read-before z) ∙ z, both z .1), λ h. back-then (h .0) (h .1))
+  back-then : readRecord tree .number ≡ 0 → Each HasCapability (featuresOf tree) → OneString (containerOf tree) → readBefore tree .number ≡ 0
+  unfolding readBefore
+  back-then z has s =
+      let y = ap numberRead (sym now) ∙ z in
+      let p = accepted-parts tree rulesNow numbered-now y in
+      ap numberRead (
+      accepted-alike tree rulesNow numbered-now y rulesBefore (properties-then (containerOf tree) (p .propertiesHold) s) (order-now [] (featuresOf tree) (p .featuresHold) has)
+      (sym (record-before (containerOf tree)))
+      )
+      ∙ y
+
+  as-then : readBefore tree .number ≡ 0 → Each HasCapability (featuresOf tree) × OneString (containerOf tree)
+  unfolding readBefore
+  as-then z =
+      let p = accepted-parts tree rulesBefore numbered-then z in
+      (order-then [] (featuresOf tree) (p .featuresHold) .1, strings-then (containerOf tree) (p .propertiesHold))
+
+  pub accepted-before : readBefore tree .number ≡ 0 ↔ ((readRecord tree .number ≡ 0) × Each HasCapability (featuresOf tree) × OneString (containerOf tree))
+  accepted-before =
+      (λ z. (ap numberRead (read-before z) ∙ z, as-then z .0, as-then z .1), λ h. back-then (h .0) (h .1) (h .2))

@@ -9,6 +9,7 @@ use lib.Seq.{split-at, getD-take, length-take-le}
 use borrow.Author.Tests.{eqb-true, eq-eqb}
 use Rattle.strings.specs.Strings.{unended}
 use Rattle.names.specs.Names.{either}
+use Rattle.positions.specs.Below.{isSomewhere}
 use Rattle.positions.specs.declared.Position.{Position}
 use Rattle.positions.specs.declared.Position.the-variants.{Nowhere, At}
 use Rattle.positions.proofs.BelowLaws.{no-way}
@@ -18,7 +19,7 @@ use Rattle.record.specs.declared.Cell.the-variants.{Given}
 use Rattle.nodes.specs.Nodes.{Node, node, nodeAt}
 use Rattle.nodes.specs.Values.{Value, missing, value, valueOf, number}
 use Rattle.reading.specs.Features.{some, isCarried, carries, isRepeated, cellOf, cellIn}
-use Rattle.reading.specs.Dependencies.{carriesAt, carrier, isSomewhere}
+use Rattle.reading.specs.Dependencies.{carriesAt, carrier}
 
 -- the node at an index
 abbrev nothing : Node

@@ -7,6 +7,7 @@ use native.Mathlib.Omega.{arith}
 use native.Mathlib.Decide.{decLt}
 use lib.ListN.{length, getD, take, drop}
 use Rattle.refusal.specs.Refusal.{Placed}
+use Rattle.positions.specs.Below.{isSomewhere}
 use Rattle.record.specs.declared.Record.{Record}
 use Rattle.record.specs.declared.Feature.{Feature}
 use Rattle.record.specs.declared.Property.{Property}
@@ -16,7 +17,7 @@ use Rattle.record.specs.Cells.{cell, dependencyCount, featureWith}
 use Rattle.nodes.specs.Nodes.{Node, nodeAt, children}
 use Rattle.nodes.specs.Values.{valueOf, number}
 use Rattle.reading.specs.Features.{featureOf, cellIn, carries}
-use Rattle.reading.specs.Dependencies.{carrier, isSomewhere}
+use Rattle.reading.specs.Dependencies.{carrier}
 use Rattle.reading.specs.Reading.{recordWith, recordBy, recordOf, readRecord}
 use Rattle.reading.specs.Accepted.{containerOf, featuresOf, dependenciesOf, FeatureForm, ContainerForm}
 use Rattle.reading.specs.Resolved.{Holds, Zeroed, Resolved}

@@ -18,6 +18,8 @@ pub mod Formed
 pub mod Capability
 pub mod FeatureBefore
 pub mod Before
+mod ReadBy
+pub mod ContainerRefused
 pub mod Example
 pub mod OrderLaws
 pub mod WalkedLaws

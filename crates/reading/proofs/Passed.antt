@@ -10,8 +10,9 @@ use Rattle.refusal.specs.Refusal.{Fault}
 use Rattle.refusal.specs.Checks.{Check}
 use Rattle.refusal.proofs.Checks.{Passes, passes-both}
 use Rattle.nodes.specs.Nodes.{Node}
+use Rattle.positions.specs.Below.{isSomewhere}
 use Rattle.reading.specs.Features.{inOrder}
-use Rattle.reading.specs.Dependencies.{isSomewhere, carrier, cellChecks, carrierChecks}
+use Rattle.reading.specs.Dependencies.{carrier, cellChecks, carrierChecks}
 use Rattle.reading.specs.Accepted.{dependenciesOf}
 
 pub holds-true : (b : Bool) → T b → b ≡ true

@@ -7,10 +7,11 @@ use native.Mathlib.Omega.{arith}
 use lib.ListN.{length, getD}
 use Rattle.refusal.specs.Refusal.{Fault, fault}
 use Rattle.refusal.specs.Checks.{Check, check}
+use Rattle.positions.specs.Below.{isSomewhere}
 use Rattle.positions.specs.declared.Position.{Position}
 use Rattle.positions.specs.declared.Position.the-variants.{Nowhere, At}
 use Rattle.nodes.specs.Nodes.{Node}
-use Rattle.reading.specs.Dependencies.{carrier, isSomewhere, cellChecks, Resolution, unknown, found, onePosition, followedBy, positionsOf}
+use Rattle.reading.specs.Dependencies.{carrier, cellChecks, Resolution, unknown, found, onePosition, followedBy, positionsOf}
 use Rattle.reading.specs.Ends.{AllHold, FirstFailing}
 use Rattle.reading.proofs.CheckLaws.{fail-left, fail-right, fail-here}
 

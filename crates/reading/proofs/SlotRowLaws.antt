@@ -10,9 +10,10 @@ use Rattle.cells.specs.Rows.{padded}
 use Rattle.cells.proofs.Rows.{length-padded}
 use Rattle.refusal.specs.Refusal.{Fault}
 use Rattle.refusal.specs.Checks.{Check}
+use Rattle.positions.specs.Below.{isSomewhere}
 use Rattle.record.specs.Record.{mostDependencies}
 use Rattle.nodes.specs.Nodes.{Node, nodeAt}
-use Rattle.reading.specs.Dependencies.{isSomewhere, carrier, cellChecks, carrierChecks, found, followedBy, slotRow, slotsOf}
+use Rattle.reading.specs.Dependencies.{carrier, cellChecks, carrierChecks, found, followedBy, slotRow, slotsOf}
 use Rattle.reading.specs.Accepted.{dependenciesOf}
 use Rattle.reading.specs.Ends.{AllHold, FirstFailing}
 use Rattle.reading.proofs.CheckLaws.{hold-both, fail-left, fail-right}

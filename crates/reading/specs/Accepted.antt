@@ -8,12 +8,14 @@ use Rattle.refusal.specs.Refusal.{Fault}
 use Rattle.refusal.specs.Checks.{Check}
 use Rattle.header.specs.Header.{blocksOf}
 use Rattle.names.specs.Names.{sameText}
+use Rattle.container.specs.Container.{ContainerType, ContainerCompatible}
+use Rattle.positions.specs.Below.{isSomewhere}
 use Rattle.record.specs.Record.{mostFeatures, mostDependencies, highestHfscrBit, highestFscrBit, highestHwcapBit}
 use Rattle.walk.specs.Checked.{checkTree}
 use Rattle.nodes.specs.Nodes.{Node, nodeAt, children}
-use Rattle.nodes.specs.Values.{Value, valueOf, isText, isGiven, isCell, isCellOrMissing, isCells, number, lowBit, cellsOf}
+use Rattle.nodes.specs.Values.{Value, valueOf, bytesOf, isGiven, isCell, isCellOrMissing, isCells, number, lowBit, cellsOf}
 use Rattle.reading.specs.Features.{some, isPhandle, isRepeated}
-use Rattle.reading.specs.Dependencies.{isSomewhere, carrier}
+use Rattle.reading.specs.Dependencies.{carrier}
 use Rattle.reading.specs.Reading.{containersOf, readChecks}
 
 -- the container of a tree, its features, and the checks of them all
@@ -58,10 +60,14 @@ pub record FeatureForm (before : List Node) (n : Node) : Type 0 where
   pub few : length (dependenciesOf n) ≤ mostDependencies
   pub nameOnce : some (λ (m : Node). sameText (m .name) (n .name)) before ≡ false
 
+-- (A3) "`compatible` at any place and either `device_type` as its only string"
+pub record ContainerStrings (c : Node) : Type 0 where
+  pub deviceType : ContainerType (bytesOf (valueOf c "device_type"))
+  pub compatible : ContainerCompatible (bytesOf (valueOf c "compatible"))
+
 -- a container with its features
 pub record ContainerForm (c : Node) : Type 0 where
-  pub deviceType : isText "cpu-features" (valueOf c "device_type") ≡ true
-  pub compatible : isText "ibm,powerpc-cpu-features" (valueOf c "compatible") ≡ true
+  pub strings : ContainerStrings c
   pub isa : isCell (valueOf c "isa") ≡ true
   pub few : length (children c) ≤ mostFeatures
   pub features : (before : List Node) (n : Node) (behind : List Node) → children c ≡ before ++ n ∷ behind → FeatureForm before n

@@ -8,7 +8,7 @@ use Rattle.refusal.specs.Checks.{Check, check}
 use Rattle.cells.specs.Rows.{padded}
 use Rattle.positions.specs.declared.Position.{Position}
 use Rattle.positions.specs.declared.Position.the-variants.{Nowhere, At}
-use Rattle.positions.specs.Below.{firstThat}
+use Rattle.positions.specs.Below.{firstThat, isSomewhere}
 use Rattle.record.specs.Record.{mostDependencies}
 use Rattle.nodes.specs.Nodes.{Node, nodeAt}
 use Rattle.nodes.specs.Values.{valueOf, cellsOf}
@@ -21,11 +21,6 @@ carriesAt features p i = carries p (nodeAt features i)
 -- which feature carries a phandle: the first that does, or none
 abbrev pub carrier : List Node → ℕ → Position
 carrier features p = firstThat (length features) (carriesAt features p)
-
--- there is one
-abbrev pub isSomewhere : Position → Bool
-isSomewhere Nowhere = false
-isSomewhere (At i) = true
 
 -- "otherwise 13 at the begin token of the naming feature"
 unfoldable pub cellChecks : ℕ → List Node → List ℕ → List (Check Fault)

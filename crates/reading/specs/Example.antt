@@ -62,6 +62,15 @@ exampleTree =
 unfoldable pub olderTree : List ℕ
 olderTree = take 236 exampleTree ++ flatMap cellBytes (4 ∷ 4 ∷ 4 ∷ 4 ∷ []) ++ drop 252 exampleTree
 
+-- the same with an empty string before the one of the container's `compatible`, which then stands at place 1 (A3)
+unfoldable pub secondNameTree : List ℕ
+secondNameTree =
+    take 140 exampleTree ++ cellBytes 26 ++ take 4 (drop 144 exampleTree) ++ (0 ∷ []) ++ take 27 (drop 148 exampleTree) ++ drop 176 exampleTree
+
+-- the same with an empty string behind the one of the container's `device_type`, which then is not its only one (A3)
+unfoldable pub twoTypesTree : List ℕ
+twoTypesTree = take 112 exampleTree ++ cellBytes 14 ++ drop 116 exampleTree
+
 -- alpha, by its word `given` and its capability bit
 abbrev alpha : ℕ → ℕ → Feature
 alpha given number = record {

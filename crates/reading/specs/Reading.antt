@@ -6,6 +6,7 @@ use lib.ListN.{length}
 use Rattle.refusal.specs.Refusal.{Fault, fault, Placed, placed, refuseAt}
 use Rattle.refusal.specs.Checks.{Check, check, firstFault}
 use Rattle.cells.specs.Rows.{padded}
+use Rattle.container.specs.Container.{isContainerType, isContainerCompatible}
 use Rattle.header.specs.declared.Blocks.{Blocks}
 use Rattle.walk.specs.Walk.{treeTokens}
 use Rattle.walk.specs.Containers.{containerName}
@@ -14,7 +15,7 @@ use Rattle.walk.specs.declared.Layout.{Layout}
 use Rattle.record.specs.declared.Record.{Record}
 use Rattle.record.specs.Record.{mostFeatures, slotCount, noFeature, noFeatures}
 use Rattle.nodes.specs.Nodes.{Node, nodeAt, nodesNamed, children}
-use Rattle.nodes.specs.Values.{valueOf, isText, isCell, number}
+use Rattle.nodes.specs.Values.{valueOf, bytesOf, isCell, number}
 use Rattle.reading.specs.Features.{inOrder, nameChecks, featureChecks, featureOf}
 use Rattle.reading.specs.Dependencies.{carrierChecks, Resolution, unknown, found, slotsOf}
 
@@ -23,12 +24,11 @@ abbrev pub containerChecks : ℕ → List Node → List (Check Fault)
 containerChecks start containers =
     check (leb 1 (length containers)) (fault 10 start) ∷ check (leb (length containers) 1) (fault 9 (nodeAt containers 1 .at)) ∷ []
 
--- "Its `device_type` is `cpu-features`, its `compatible` `ibm,powerpc-cpu-features` ..; `isa` one cell; checked in that order, 11 at
--- the container's begin token"
+-- its `device_type`, its `compatible` (A3) and "`isa` one cell; checked in that order, 11 at the container's begin token"
 abbrev pub containerProperties : Node → List (Check Fault)
 containerProperties c =
-    check (isText "cpu-features" (valueOf c "device_type")) (fault 11 (c .at))
-    ∷ check (isText "ibm,powerpc-cpu-features" (valueOf c "compatible")) (fault 11 (c .at))
+    check (isContainerType (bytesOf (valueOf c "device_type"))) (fault 11 (c .at))
+    ∷ check (isContainerCompatible (bytesOf (valueOf c "compatible"))) (fault 11 (c .at))
     ∷ check (isCell (valueOf c "isa")) (fault 11 (c .at))
     ∷ []
 

@@ -1,17 +1,17 @@
 -- Laws of strings and of equal byte runs. Assumes nothing.
 use mathlib.Core.Path.{_≡_, refl, sym, ap, ap₂, _∙_}
 use mathlib.Core.Bool.{Bool, true, false}
-use mathlib.Core.List.{List, [], _∷_, _++_}
+use mathlib.Core.List.{List, [], _∷_}
 use Prim.Native.Nat.{ℕ, suc, zero, _+_, _-_, _<_, _≤_, min}
 use native.Mathlib.Nat.{add-zero}
 use native.Mathlib.Omega.{arith}
 use native.Mathlib.Numerals.{add-one}
 use borrow.Author.Tests.{eq-eqb, ne-eqb, eqb-true}
 use lib.Dec.{eqb}
-use lib.ListN.{getD, length, take, drop, drop-of-length-le, length-append, length-take, length-drop}
-use lib.Seq.{drop-cons, take-nil, take-suc, take-all, getD-append-seam, take-append-seam, take-take}
+use lib.ListN.{getD, length, take, drop, drop-of-length-le, length-take, length-drop}
+use lib.Seq.{drop-cons, take-nil, take-take, getD-take, getD-drop}
 use Rattle.strings.specs.declared.Ending.the-variants.{At, Nowhere}
-use Rattle.strings.specs.Strings.{Text, ended, unended, onto, textOf, textAt, endingOf, sameBytes, isString}
+use Rattle.strings.specs.Strings.{Text, ended, unended, onto, textOf, textAt, endingOf, sameBytes}
 
 -- a string in a block, byte by byte
 module _ (s : List ℕ) (end i : ℕ) where
@@ -89,6 +89,26 @@ text-taken s from end cs e =
     let l : length cs ≤ end - from = omega (arith, shorter (take (end - from) (drop from s)) cs e, length-take (end - from) (drop from s)) in
     sym (take-take (length cs) (end - from) (drop from s) l) ∙ taken (take (end - from) (drop from s)) cs e
 
+-- and its zero byte follows
+zero-behind : (bs cs : List ℕ) → textOf bs ≡ ended cs → getD bs (length cs) 0 ≡ 0
+unfolding textOf
+zero-behind [] cs e = let z : _≡_ {A = ℕ} 0 1 = cc in absurd (omega arith)
+zero-behind (b ∷ bs) cs e = go (eqb b 0) refl (textOf bs) (zero-behind bs) e
+  where
+    go : (q : Bool) → eqb b 0 ≡ q → (t : Text) → ((ds : List ℕ) → t ≡ ended ds → getD bs (length ds) 0 ≡ 0)
+        → (elim q as (λ _. Text) [ true ↦ ended [] | false ↦ onto b t ]) ≡ ended cs → getD (b ∷ bs) (length cs) 0 ≡ 0
+    go true h t f p = let l : cs ≡ [] = cc in rw l (eqb-true b 0 h)
+    go false h (ended ds) f p = let l : cs ≡ b ∷ ds = cc in rw l (f ds refl)
+    go false h unended f p = let z : _≡_ {A = ℕ} 0 1 = cc in absurd (omega arith)
+
+pub text-zero : (s : List ℕ) (from end : ℕ) (cs : List ℕ) → textAt s from end ≡ ended cs → getD s (from + length cs) 0 ≡ 0
+unfolding textAt
+text-zero s from end cs e =
+    let l : length cs < end - from = omega (arith, shorter (take (end - from) (drop from s)) cs e, length-take (end - from) (drop from s)) in
+    sym (getD-drop from s (length cs) 0)
+    ∙ sym (getD-take (end - from) (drop from s) (length cs) 0 l)
+    ∙ zero-behind (take (end - from) (drop from s)) cs e
+
 -- the test says whether the runs are equal
 pub same-true : (a b : List ℕ) → sameBytes a b ≡ true → a ≡ b
 unfolding sameBytes
@@ -123,27 +143,3 @@ same-same a b c d f g = go (sameBytes a b) refl
     go : (t : Bool) → sameBytes a b ≡ t → t ≡ sameBytes c d
     go true e = sym (rw (← f (same-true a b e)) (same-refl c))
     go false e = sym (same-false c d (λ q. apart (sym e ∙ rw (g q) (same-refl b))))
-
--- a value and one string
-module _ (value text : List ℕ) where
-  pub other-length : (length value ≡ length text + 1 → ⊥) → isString value text ≡ false
-  unfolding isString
-  other-length h = same-false value (text ++ 0 ∷ []) (λ e. h (ap length e ∙ length-append text (0 ∷ [])))
-
-  pub other-end : (getD value (length text) 0 ≡ 0 → ⊥) → isString value text ≡ false
-  unfolding isString
-  other-end h =
-      same-false value (text ++ 0 ∷ []) (λ e. h (ap (λ (l : List ℕ). getD l (length text) 0) e ∙ getD-append-seam text 0 [] 0))
-
-  pub string-front : length value ≡ length text + 1 → getD value (length text) 0 ≡ 0 → sameBytes (take (length text) value) text ≡ isString value text
-  unfolding isString
-  string-front l z =
-      same-same (take (length text) value) text value (text ++ 0 ∷ [])
-      (λ e. whole ∙ ap (λ (x : List ℕ). x ++ 0 ∷ []) e)
-      (λ e. ap (take (length text)) e ∙ take-append-seam text (0 ∷ []))
-    where
-      whole : value ≡ take (length text) value ++ 0 ∷ []
-      whole =
-          let h : length text < length value = omega arith in
-          let k : length value ≤ suc (length text) = omega arith in
-          sym (take-all (suc (length text)) value k) ∙ take-suc value (length text) 0 h ∙ ap (λ (x : ℕ). take (length text) value ++ x ∷ []) z

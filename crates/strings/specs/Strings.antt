@@ -1,7 +1,7 @@
 -- Strings that end in a zero byte, and equality of byte runs (document 01, "The walk", "The feature record").
 use Prim.Native.Nat.{ℕ, _+_, _-_}
 use mathlib.Core.Bool.{Bool, true, false}
-use mathlib.Core.List.{List, [], _∷_, _++_}
+use mathlib.Core.List.{List, [], _∷_}
 use lib.Dec.{eqb}
 use lib.ListN.{length, take, drop}
 use Rattle.strings.specs.declared.Ending.{Ending}
@@ -35,7 +35,3 @@ sameBytes [] [] = true
 sameBytes [] (y ∷ ys) = false
 sameBytes (x ∷ xs) [] = false
 sameBytes (x ∷ xs) (y ∷ ys) = elim (eqb x y) [ true ↦ sameBytes xs ys | false ↦ false ]
-
--- "each one string with its zero byte": the value is that string's characters and a zero byte
-unfoldable pub isString : List ℕ → List ℕ → Bool
-isString value text = sameBytes value (text ++ 0 ∷ [])

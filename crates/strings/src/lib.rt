@@ -1,6 +1,6 @@
 // Strings that end in a zero byte, and equal runs of bytes. Every function takes any slices and any place.
 ghost use mathlib.Core.Path.{_≡_};
-ghost use Rattle.strings.specs.Strings.{textAt, endingOf, sameBytes, isString};
+ghost use Rattle.strings.specs.Strings.{textAt, endingOf, sameBytes};
 
 // Where a string's zero byte stands.
 pub enum Ending {
@@ -38,21 +38,4 @@ pub fn same_bytes(a: &[u8], b: &[u8]) -> bool
         i += 1;
     }
     true
-}
-
-// Whether a property's value is exactly the given string and its zero byte.
-pub fn is_string(value: &[u8], text: &[u8]) -> bool
-    ensures { λ r. ⌜ r ≡ isString (now (value .entry)) (now (text .entry)) ⌝ }
-{
-    let n = text.len();
-    if value.len() <= n {
-        return false;
-    }
-    if 1 < value.len() - n {
-        return false;
-    }
-    if value[n] != 0 {
-        return false;
-    }
-    same_bytes(&value[..n], text)
 }

@@ -23,12 +23,13 @@ fn bad_vector() -> bool {
     false
 }
 
-// Puts the line of a vector of unit text, a tree, a lookup or a record; false if it is none.
+// Puts the line of a vector of unit text, a tree, a lookup, a string in a list or a record; false if it is none.
 fn tree_answer(kind: u8, value: &[u8]) -> bool {
     match kind {
         b'u' => cpu::unit_read(value),
         b't' => trees::tree(value),
         b'l' => trees::property_lookup(value),
+        b'm' => trees::string_place(value),
         b'r' => records::record(value),
         b'n' => resolver::reach_table(value),
         _ => false,

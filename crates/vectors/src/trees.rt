@@ -1,10 +1,15 @@
-// The kinds of vectors for trees and for blocks of properties. Each function puts one line and answers whether the bytes are a vector.
+// The kinds of vectors for trees, for blocks of properties and for lists of strings. Each function puts one line and answers whether the bytes are a vector.
 use crate::line::put_number;
 use crate::line::put_start;
 use lookup::Found;
+use positions::Position;
+use refusal::Refusal;
 
 // The three lengths before the parts of a lookup.
 const LENGTHS: usize = 12;
+
+// The length before a list of strings.
+const LENGTH: usize = 4;
 
 // Where the CPU node's block of a lookup ends, its parent's, and the strings block.
 struct Ends {
@@ -83,4 +88,28 @@ pub(crate) fn property_lookup(value: &[u8]) -> bool {
     let strings = part(value, ends.parent, ends.strings);
     let name = part(value, ends.strings, value.len());
     looked_up(cpu, parent, strings, name)
+}
+
+// The place at which a text stands in a list.
+fn put_string_place(list: &[u8], text: &[u8]) {
+    match stringlist::string_place(list, text) {
+        Position::At(place) => {
+            put_start(b'm', Refusal::None);
+            put_number(place as u64);
+        }
+        Position::Nowhere => {
+            put_start(b'm', Refusal::NotFound);
+            put_number(0);
+        }
+    }
+}
+
+// A text in a list of strings: the list's length, the list, and the text sought. Fewer bytes are no vector.
+pub(crate) fn string_place(value: &[u8]) -> bool {
+    let end = LENGTH + cells::cell_at(value, 0) as usize;
+    if value.len() < end {
+        return false;
+    }
+    put_string_place(part(value, LENGTH, end), part(value, end, value.len()));
+    true
 }

@@ -5,39 +5,42 @@ use borrow.Author.Needs.{needs}
 use Rattle.reader.proofs.is_container.Statement.{statement}
 use Rattle.reader.proofs.is_container.Tie as tie
 
-slice-aggregate-has-text : tie.Need-slice-aggregate-has-text
-slice-aggregate-has-text c = search needs
+slice-aggregate-value-part : tie.Need-slice-aggregate-value-part
+slice-aggregate-value-part c = search needs
 
-slice-aggregate-has-text-2 : tie.Need-slice-aggregate-has-text-2
-slice-aggregate-has-text-2 c = search needs
+value-part-requires : tie.Need-value-part-requires
+value-part-requires c κs = search needs
 
-has-text-requires : tie.Need-has-text-requires
-has-text-requires c κs = search needs
+is-container-type-requires : tie.Need-is-container-type-requires
+is-container-type-requires c κs = search needs
 
 returns : tie.Need-returns
-returns c = other-type _ (c .before .has-text .ensures) (not-true _ (c .if1 .taken))
+returns c = other-type _ (c .before .is-container-type .ensures) (c .before .before .value-part .ensures) (not-true _ (c .if1 .taken))
 
-slice-aggregate-has-text-3 : tie.Need-slice-aggregate-has-text-3
-slice-aggregate-has-text-3 c = search needs
+slice-aggregate-value-part-2 : tie.Need-slice-aggregate-value-part-2
+slice-aggregate-value-part-2 c = search needs
 
-slice-aggregate-has-text-4 : tie.Need-slice-aggregate-has-text-4
-slice-aggregate-has-text-4 c = search needs
+value-part-requires-2 : tie.Need-value-part-requires-2
+value-part-requires-2 c κs = search needs
 
-has-text-requires-2 : tie.Need-has-text-requires-2
-has-text-requires-2 c κs = search needs
+is-container-compatible-requires : tie.Need-is-container-compatible-requires
+is-container-compatible-requires c κs = search needs
 
 returns-2 : tie.Need-returns-2
-returns-2 c = right-type _ (c .before .before .before .before .has-text .ensures) (not-false _ (c .before .before .before .if1 .left)) (c .has-text2 .ensures)
+returns-2 c =
+    let t = c .before .before .before .before in
+    right-type _ (t .is-container-type .ensures) (t .before .value-part .ensures) (not-false _ (c .before .before .before .if1 .left))
+    (c .is-container-compatible .ensures) (c .before .value-part2 .ensures)
 
 pub is-container-spec : {M : Type 1} → statement M
 is-container-spec =
     tie.close
     (tie.spec
-    slice-aggregate-has-text
-    slice-aggregate-has-text-2
-    has-text-requires
+    slice-aggregate-value-part
+    value-part-requires
+    is-container-type-requires
     returns
-    slice-aggregate-has-text-3
-    slice-aggregate-has-text-4
-    has-text-requires-2
+    slice-aggregate-value-part-2
+    value-part-requires-2
+    is-container-compatible-requires
     returns-2)

@@ -1,0 +1,2 @@
+mod ContainerLaws
+pub mod Exactly

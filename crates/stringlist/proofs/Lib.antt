@@ -1,0 +1,4 @@
+pub mod StringLaws
+mod StopLaws
+mod OnlyLaws
+pub mod Stands

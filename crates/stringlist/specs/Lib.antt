@@ -1,0 +1,2 @@
+pub mod StringList
+pub mod Parts
