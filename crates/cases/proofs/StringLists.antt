@@ -1,14 +1,12 @@
 -- What is answered of a string in a list (A3). Assumes nothing.
 use Prim.Native.Nat.{ℕ}
 use mathlib.Core.Path.{_≡_, refl, sym, ap, subst, _∙_}
-use mathlib.Core.List.{List, [], _∷_, _++_}
-use mathlib.Core.Logic.{_↔_}
+use mathlib.Core.List.{List}
 use native.Mathlib.Omega.{arith}
 use Rattle.refusal.specs.Refusal.{Outcome, answer, refuse}
-use Rattle.cells.specs.Bytes.{Each}
 use Rattle.positions.specs.declared.Position.{Position}
 use Rattle.positions.specs.declared.Position.the-variants.{Nowhere, At}
-use Rattle.stringlist.specs.StringList.{NotZero, stringsBytes, AreStrings, StandsFirst, stringPlace}
+use Rattle.stringlist.specs.StringList.{stringsBytes, StandsFirst, stringPlace}
 use Rattle.stringlist.proofs.StringLaws.{are-strings, joined-strings}
 use Rattle.stringlist.proofs.Stands.{place-stands, stands-place, zero-nowhere, cut-nowhere, empty-nowhere, place-kept, repeated-later}
 use Rattle.answers.specs.Answers.{placeOutcome}
@@ -27,7 +25,7 @@ pub of-list : (list text : List ℕ) → Demand2List findString list text
 of-list list text = record {
   stands = λ i. (λ e. subst (StandsFirst list text) (told-at place e) (place-stands list text), λ s. ap placeOutcome (sym (stands-place list text s)));
   standsNot = (λ e. subst (StandsFirst list text) (told-none place e) (place-stands list text), λ s. ap placeOutcome (sym (stands-place list text s)));
-  joined = joined-strings;
+  foundAgain = joined-strings;
   once = λ a b f g. sym (are-strings f .1) ∙ are-strings g .1;
   cutShort = λ b h. ap placeOutcome (cut-nowhere list b text h);
   empty = ap placeOutcome (empty-nowhere text);

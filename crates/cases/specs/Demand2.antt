@@ -79,7 +79,7 @@ pub record Demand2List (find : List ℕ → List ℕ → Outcome ℕ) (list text
   pub stands : (i : ℕ) → (find list text ≡ answer i) ↔ StandsFirst list text (At i)
   pub standsNot : (find list text ≡ refuse 0 10) ↔ StandsFirst list text Nowhere
   -- strings without zero bytes, each with its zero byte, are the strings of their bytes, and no others are
-  pub joined : (strings : List (List ℕ)) → Each (Each NotZero) strings → stringsIn (stringsBytes strings) ≡ strings
+  pub foundAgain : (strings : List (List ℕ)) → Each (Each NotZero) strings → stringsIn (stringsBytes strings) ≡ strings
   pub once : (a b : List (List ℕ)) → AreStrings list a → AreStrings list b → a ≡ b
   -- "a list whose last string lacks its zero byte contains nothing", and neither does a list of no bytes
   pub cutShort : (b : ℕ) → NotZero b → find (list ++ b ∷ []) text ≡ refuse 0 10

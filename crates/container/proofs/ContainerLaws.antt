@@ -1,7 +1,7 @@
 -- The strings of a container, by the calls that look for them. Assumes nothing.
 use Prim.Native.Nat.{ℕ}
-use mathlib.Core.Path.{_≡_, refl, sym, ap, _∙_}
-use mathlib.Core.Bool.{Bool, true, false, _||_}
+use mathlib.Core.Path.{_≡_, sym, ap, _∙_}
+use mathlib.Core.Bool.{Bool, true, false}
 use mathlib.Core.List.{List}
 use Rattle.characters.specs.Characters.{bytes}
 use Rattle.positions.specs.declared.Position.{Position}

@@ -1,16 +1,15 @@
 -- The tests of a container's strings hold exactly where the strings are a container's. Assumes nothing.
 use Prim.Native.Nat.{ℕ}
 use native.Mathlib.Omega.{arith}
-use mathlib.Core.Path.{_≡_, refl, sym, ap, subst, _∙_}
+use mathlib.Core.Path.{_≡_, refl, sym, subst}
 use mathlib.Core.Bool.{Bool, true, false, _||_, false≢true}
 use mathlib.Core.List.{List, [], _∷_, _++_}
 use mathlib.Core.Logic.{_↔_}
 use Rattle.cells.specs.Bytes.{Each}
 use Rattle.characters.specs.Characters.{bytes}
 use Rattle.positions.specs.declared.Position.{Position}
-use Rattle.positions.specs.declared.Position.the-variants.{Nowhere, At}
 use Rattle.positions.specs.Below.{isSomewhere}
-use Rattle.stringlist.specs.StringList.{NotZero, StandsFirst, atPlace, notThere, stringPlace, isOnlyString}
+use Rattle.stringlist.specs.StringList.{NotZero, StandsFirst, standsAt, standsNowhere, isOnlyString}
 use Rattle.stringlist.proofs.Stands.{place-stands, only-exactly}
 use Rattle.container.specs.Container.{ContainerType, shortType, longType, ContainerCompatible, isContainerType, isContainerCompatible}
 
@@ -49,9 +48,9 @@ module _ (value : List ℕ) where
   compatible-exactly = (λ h. there (place-stands value long) h, λ c. back c (place-stands value long))
     where
       there : {p : Position} → StandsFirst value long p → isSomewhere p ≡ true → ContainerCompatible value
-      there (atPlace before after a n) h = record { before = before; after = after; strings = a }
-      there (notThere n) h = absurd (false≢true h)
+      there (standsAt before after a n) h = record { before = before; after = after; strings = a }
+      there (standsNowhere n) h = absurd (false≢true h)
 
       back : ContainerCompatible value → {p : Position} → StandsFirst value long p → isSomewhere p ≡ true
-      back c (atPlace before after a n) = refl
-      back c (notThere n) = absurd (n (c .before) (c .after) (c .strings))
+      back c (standsAt before after a n) = refl
+      back c (standsNowhere n) = absurd (n (c .before) (c .after) (c .strings))

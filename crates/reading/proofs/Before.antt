@@ -26,7 +26,7 @@ use Rattle.nodes.specs.Nodes.{Node, children}
 use Rattle.nodes.specs.Values.{Value, missing, value, valueOf, bytesOf, isCell, number}
 use Rattle.reading.specs.Features.{inOrder, featureChecks}
 use Rattle.reading.specs.Dependencies.{Resolution, unknown, found, slotsOf}
-use Rattle.reading.specs.Reading.{containerProperties, readChecks, recordWith, recordBy, recordOf, afterWalk, readRecord}
+use Rattle.reading.specs.Reading.{containerProperties, readChecks, recordWith, recordBy, recordOf, readRecord}
 use Rattle.reading.specs.Accepted.{containerOf, featuresOf}
 use Rattle.reading.proofs.Passed.{holds-true}
 use Rattle.reading.proofs.Accepts.{true-holds}
@@ -95,7 +95,7 @@ text-exactly text (value bs) l = (same-true bs (bytes text ++ 0 ∷ []), λ e. r
 
 alone : AreStrings (bytes "ibm,powerpc-cpu-features" ++ 0 ∷ []) (bytes "ibm,powerpc-cpu-features" ∷ [])
 unfolding stringsBytes
-alone = record { joined = refl; plain = (omega arith, tt) }
+alone = record { bytes = refl; plain = (omega arith, tt) }
 
 module _ (c : Node) where
   strings-then : Passes (propertiesBefore c) → OneString c

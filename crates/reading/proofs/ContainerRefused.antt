@@ -1,10 +1,9 @@
 -- One container whose strings are not a container's is refused with 11 at its begin token. Assumes nothing.
 use Prim.Native.Nat.{ℕ}
 use native.Mathlib.Omega.{arith}
-use mathlib.Core.Path.{_≡_, refl, ap, _∙_}
+use mathlib.Core.Path.{_≡_, refl}
 use mathlib.Core.Bool.{Bool, true, false}
 use mathlib.Core.List.{List}
-use lib.Dec.{leb}
 use lib.ListN.{length}
 use Rattle.refusal.specs.Refusal.{Placed, fault, refuseAt}
 use Rattle.refusal.specs.Checks.{firstFault}

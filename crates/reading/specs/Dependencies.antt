@@ -1,6 +1,6 @@
 -- Dependencies: from phandles to positions (document 01, "The feature record").
 use Prim.Native.Nat.{ℕ}
-use mathlib.Core.Bool.{Bool, true, false}
+use mathlib.Core.Bool.{Bool}
 use mathlib.Core.List.{List, [], _∷_, _++_}
 use lib.ListN.{length}
 use Rattle.refusal.specs.Refusal.{Fault, fault}

@@ -5,9 +5,8 @@ use mathlib.Core.List.{List, [], _∷_, _++_}
 use Prim.Native.Nat.{ℕ, _+_, _-_, _<_, _≤_}
 use native.Mathlib.Omega.{arith}
 use borrow.Author.Tests.{eq-eqb}
-use lib.Dec.{eqb}
-use lib.ListN.{length, getD, take, drop, drop-of-length-le, length-append}
-use Rattle.strings.specs.Strings.{Text, ended, unended, textAt, endingOf, sameBytes}
+use lib.ListN.{length, take, drop, drop-of-length-le, length-append}
+use Rattle.strings.specs.Strings.{sameBytes}
 use Rattle.strings.proofs.Strings.{text-zero}
 use Rattle.positions.specs.declared.Position.{Position}
 use Rattle.positions.specs.declared.Position.the-variants.{Nowhere, At}
@@ -17,7 +16,7 @@ use Rattle.stringlist.specs.declared.Stop.the-variants.{At as StopsAt, E
 use Rattle.stringlist.specs.StringList.{stringsBytes, splitAtZeros, isWhole, stringsIn, isStringAt, stringPlace, isOnly, isOnlyString}
 use Rattle.stringlist.specs.Parts.{stopIn}
 use Rattle.stringlist.proofs.StringLaws.{split-few, whole-bytes}
-use Rattle.stringlist.proofs.StopLaws.{here, Found, found-within, found-bytes, found-split, first-found, placeIn, later, stop-place}
+use Rattle.stringlist.proofs.StopLaws.{Found, found-within, found-bytes, found-split, first-found, placeIn, later, stop-place}
 
 module _ (list text : List ℕ) where
   -- the place: nowhere in a list without its last zero byte, else where a scan stops that seeks no place

@@ -1,7 +1,7 @@
 -- The place answered is the first at which the string stands, and no other is; what follows, a repeated string too, changes nothing.
 -- Assumes nothing.
 use mathlib.Core.Path.{_≡_, refl, sym, ap, subst, _∙_}
-use mathlib.Core.Bool.{Bool, true, false, cond, false≢true}
+use mathlib.Core.Bool.{Bool, true, false, false≢true}
 use mathlib.Core.List.{List, [], _∷_, _++_}
 use mathlib.Core.Logic.{_↔_}
 use Prim.Native.Nat.{ℕ, suc, _+_, _<_}
@@ -17,7 +17,7 @@ use Rattle.positions.specs.declared.Position.{Position}
 use Rattle.positions.specs.declared.Position.the-variants.{Nowhere, At}
 use Rattle.positions.specs.Below.{firstThat}
 use Rattle.positions.proofs.FirstLaws.{IsFirst, first-that, first-is}
-use Rattle.stringlist.specs.StringList.{NotZero, stringsBytes, AreStrings, StandsFirst, atPlace, notThere, splitAtZeros, isWhole, stringsIn, isStringAt, stringPlace, isOnly, isOnlyString}
+use Rattle.stringlist.specs.StringList.{NotZero, stringsBytes, AreStrings, StandsFirst, standsAt, standsNowhere, splitAtZeros, isWhole, stringsIn, isStringAt, stringPlace, isOnly, isOnlyString}
 use Rattle.stringlist.proofs.StringLaws.{last-cut, strings-are, are-strings, joined-strings}
 
 -- a list with a string has its last zero byte
@@ -41,7 +41,7 @@ module _ (list text : List ℕ) where
 
   -- the place answered is so
   stands : (p : Position) → IsFirst (length all) (isStringAt all text) p → StandsFirst list text p
-  stands Nowhere f = notThere none
+  stands Nowhere f = standsNowhere none
     where
       none : (before after : List (List ℕ)) → AreStrings list (before ++ text ∷ after) → ⊥
       none before after a =
@@ -51,7 +51,7 @@ module _ (list text : List ℕ) where
           false≢true (sym (f (length before) l) ∙ rw g (same-refl text))
   stands (At r) f =
       let e : length (take r all) ≡ r = length-take-le r all (omega (arith, f .0)) in
-      subst (λ (k : ℕ). StandsFirst list text (At k)) e (atPlace (take r all) (drop (suc r) all) (split-is (f .0) (f .1)) (each-at _ [] (take r all) others))
+      subst (λ (k : ℕ). StandsFirst list text (At k)) e (standsAt (take r all) (drop (suc r) all) (split-is (f .0) (f .1)) (each-at _ [] (take r all) others))
     where
       others : (i : ℕ) → i < length (take r all) → getD (take r all) i [] ≡ text → ⊥
       others i h e =
@@ -65,7 +65,7 @@ module _ (list text : List ℕ) where
 
   -- and no other is
   first : {p : Position} → StandsFirst list text p → IsFirst (length all) (isStringAt all text) p
-  first (atPlace before after a n) =
+  first (standsAt before after a n) =
       let e = are-strings a .1 in
       let l = length-append before (text ∷ after) in (
         omega (arith, ap length e, l),
@@ -74,7 +74,7 @@ module _ (list text : List ℕ) where
             ∙ ap (λ (t : List ℕ). sameBytes t text) (List·getD-append before (text ∷ after) [] i h)
             ∙ same-false (getD before i []) text (each-get _ [] before n i h),
       )
-  first (notThere n) = λ i h. go i h (isStringAt all text i) refl
+  first (standsNowhere n) = λ i h. go i h (isStringAt all text i) refl
     where
       go : (i : ℕ) → i < length all → (q : Bool) → isStringAt all text i ≡ q → isStringAt all text i ≡ false
       go i h true e = absurd (n (take i all) (drop (suc i) all) (split-is h e))
@@ -86,7 +86,7 @@ module _ (list text : List ℕ) where
 
   -- a text with a zero byte stands nowhere
   pub zero-nowhere : (Each NotZero text → ⊥) → stringPlace list text ≡ Nowhere
-  zero-nowhere h = sym (stands-place (notThere (λ before after a. h (each-next _ before (text ∷ after) (a .plain) .0))))
+  zero-nowhere h = sym (stands-place (standsNowhere (λ before after a. h (each-next _ before (text ∷ after) (a .plain) .0))))
 
 -- nothing stands in a list whose last byte is not zero, nor in one of no bytes
 pub cut-nowhere : (list : List ℕ) (b : ℕ) (text : List ℕ) → NotZero b → stringPlace (list ++ b ∷ []) text ≡ Nowhere
@@ -164,14 +164,14 @@ repeated-later ts u h {k} stands text = go (stringPlace (stringsBytes ts) text) 
 -- the only string of a list: its characters and a zero byte are the list
 pub only-exactly : (list text : List ℕ) → Each NotZero text → (isOnlyString list text ≡ true) ↔ (list ≡ text ++ 0 ∷ [])
 unfolding isOnlyString stringsBytes
-only-exactly list text plain = (λ h. alone (stringsIn list) refl h, λ e. alike (are-strings (record { joined = sym e; plain = (plain, tt) }) .1))
+only-exactly list text plain = (λ h. alone (stringsIn list) refl h, λ e. alike (are-strings (record { bytes = sym e; plain = (plain, tt) }) .1))
   where
     alone : (ts : List (List ℕ)) → stringsIn list ≡ ts → isOnly text ts ≡ true → list ≡ text ++ 0 ∷ []
     alone [] e h = absurd (false≢true h)
     alone (t ∷ u ∷ ts) e h = absurd (false≢true h)
     alone (t ∷ []) e h =
         let l : 0 < length (stringsIn list) = omega (arith, ap length e) in
-        sym (some-whole list l .joined) ∙ ap stringsBytes e ∙ ap (λ (x : List ℕ). x ++ 0 ∷ []) (same-true t text h)
+        sym (some-whole list l .bytes) ∙ ap stringsBytes e ∙ ap (λ (x : List ℕ). x ++ 0 ∷ []) (same-true t text h)
 
     alike : stringsIn list ≡ text ∷ [] → isOnly text (stringsIn list) ≡ true
     alike e = rw e (same-refl text)

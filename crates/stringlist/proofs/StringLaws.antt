@@ -2,11 +2,12 @@
 use mathlib.Core.Path.{_≡_, refl, sym, ap, _∙_}
 use mathlib.Core.Bool.{Bool, true, false, cond, false≢true}
 use mathlib.Core.List.{List, [], _∷_, _++_}
-use Prim.Native.Nat.{ℕ, suc, _+_, _-_, _≤_}
+use Prim.Native.Nat.{ℕ, zero, suc, _+_, _-_, _≤_, _<_}
 use native.Mathlib.Omega.{arith}
 use borrow.Author.Tests.{ne-eqb, eqb-true}
 use lib.Dec.{eqb}
-use lib.ListN.{length, getD, drop}
+use lib.ListN.{length, getD, take, drop, length-append}
+use lib.Seq.{take-append-seam, drop-append-add}
 use Rattle.cells.specs.Bytes.{Each}
 use Rattle.strings.specs.Strings.{Text, ended, unended, onto, textOf}
 use Rattle.stringlist.specs.StringList.{NotZero, stringsBytes, AreStrings, onFirst, splitAtZeros, isWhole, stringsIn}
@@ -87,16 +88,16 @@ whole-bytes (b ∷ c ∷ cs) h = go (eqb b 0) refl (splitAtZeros (c ∷ cs)) (wh
 -- the strings of a list are those found, where its last byte is zero; else it has none
 pub strings-are : (list : List ℕ) → isWhole list ≡ true → AreStrings list (stringsIn list)
 unfolding stringsIn
-strings-are list h = rw h (record { joined = whole-bytes list h; plain = split-plain list })
+strings-are list h = rw h (record { bytes = whole-bytes list h; plain = split-plain list })
 
 pub are-strings : {list : List ℕ} {ts : List (List ℕ)} → AreStrings list ts → (isWhole list ≡ true) × (stringsIn list ≡ ts)
 unfolding stringsIn
 are-strings {list} {ts} a =
-    let w : isWhole list ≡ true = ap isWhole (sym (a .joined)) ∙ whole-joined ts in
-    (w, rw w (ap splitAtZeros (sym (a .joined)) ∙ split-joined ts (a .plain)))
+    let w : isWhole list ≡ true = ap isWhole (sym (a .bytes)) ∙ whole-joined ts in
+    (w, rw w (ap splitAtZeros (sym (a .bytes)) ∙ split-joined ts (a .plain)))
 
 pub joined-strings : (ts : List (List ℕ)) → Each (Each NotZero) ts → stringsIn (stringsBytes ts) ≡ ts
-joined-strings ts h = are-strings (record { joined = refl; plain = h }) .1
+joined-strings ts h = are-strings (record { bytes = refl; plain = h }) .1
 
 -- the first string of a run of bytes, and those behind it
 pub split-ended : (bs cs : List ℕ) → textOf bs ≡ ended cs → splitAtZeros bs ≡ cs ∷ splitAtZeros (drop (suc (length cs)) bs)
@@ -136,3 +137,13 @@ whole-last list = refl
 pub last-cut : (bs : List ℕ) (b : ℕ) → NotZero b → isWhole (bs ++ b ∷ []) ≡ false
 unfolding isWhole
 last-cut bs b h = whole-append bs b [] ∙ ne-eqb b 0 h
+
+-- the string at a place, as a part of its list
+pub string-part : (ts : List (List ℕ)) (k : ℕ) → k < length ts
+    → take (length (getD ts k [])) (drop (length (stringsBytes (take k ts))) (stringsBytes ts)) ≡ getD ts k []
+unfolding stringsBytes
+string-part [] k h = absurd (omega arith)
+string-part (t ∷ ts) zero h = take-append-seam t (0 ∷ stringsBytes ts)
+string-part (t ∷ ts) (suc k) h =
+    let n : length (t ++ 0 ∷ stringsBytes (take k ts)) ≡ length t + suc (length (stringsBytes (take k ts))) = length-append t (0 ∷ stringsBytes (take k ts)) in
+    rw (n, drop-append-add t (0 ∷ stringsBytes ts) (suc (length (stringsBytes (take k ts))))) (string-part ts k (omega arith))

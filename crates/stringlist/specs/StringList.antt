@@ -1,7 +1,7 @@
 -- Lists of strings (document 02, A3).
 use Prim.Native.Nat.{ℕ, _-_}
 use mathlib.Core.Path.{_≡_}
-use mathlib.Core.Bool.{Bool, true, false, cond}
+use mathlib.Core.Bool.{Bool, false, cond}
 use mathlib.Core.List.{List, [], _∷_, _++_}
 use lib.Dec.{eqb}
 use lib.ListN.{length, getD}
@@ -22,14 +22,14 @@ stringsBytes (t ∷ ts) = t ++ 0 ∷ stringsBytes ts
 
 -- the strings of a list: their bytes are the list, and none has a zero byte in it
 pub record AreStrings (list : List ℕ) (strings : List (List ℕ)) : Type 0 where
-  pub joined : stringsBytes strings ≡ list
+  pub bytes : stringsBytes strings ≡ list
   pub plain : Each (Each NotZero) strings
 
 -- a string stands first at a place, "counted from 0"; or "it doesn't stand there"
 pub data StandsFirst (list text : List ℕ) : Position → Type 0 where
-  atPlace : (before after : List (List ℕ)) → AreStrings list (before ++ text ∷ after) → Each (λ (t : List ℕ). t ≡ text → ⊥) before
+  standsAt : (before after : List (List ℕ)) → AreStrings list (before ++ text ∷ after) → Each (λ (t : List ℕ). t ≡ text → ⊥) before
       → StandsFirst list text (At (length before))
-  notThere : ((before after : List (List ℕ)) → AreStrings list (before ++ text ∷ after) → ⊥) → StandsFirst list text Nowhere
+  standsNowhere : ((before after : List (List ℕ)) → AreStrings list (before ++ text ∷ after) → ⊥) → StandsFirst list text Nowhere
 
 -- the same as tests. The strings before the zero bytes of a run; bytes behind the last zero byte are none
 abbrev pub onFirst : ℕ → List (List ℕ) → List (List ℕ)

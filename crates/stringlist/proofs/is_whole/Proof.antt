@@ -1,5 +1,5 @@
 -- `stringlist::is_whole` meets its contract. Assumes nothing.
-use mathlib.Core.Path.{sym, refl}
+use mathlib.Core.Path.{sym}
 use Rattle.stringlist.proofs.StringLaws.{whole-none, whole-last}
 use borrow.Author.Needs.{needs}
 use Rattle.stringlist.proofs.is_whole.Statement.{statement}
