@@ -1,5 +1,5 @@
--- Demand 2, in its own words: what is read of a tree, of the values of a CPU node's properties, and of unit text, over the definitions that
--- the promises cite. Each request adds its field.
+-- Demand 2, in its own words: what is read of a tree, of a list of strings, of the values of a CPU node's properties and of unit text, over
+-- the definitions that the promises cite. Each request adds its field.
 use Prim.Native.Nat.{ℕ, _-_, _^_, _≤_, _<_, max}
 use mathlib.Core.Path.{_≡_}
 use mathlib.Core.List.{List, [], _∷_, _++_, map}
