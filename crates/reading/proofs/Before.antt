@@ -1,15 +1,17 @@
 -- What A2 and A3 withdraw of document 01's reading, and nothing else: a tree was accepted before exactly when it is accepted now, no user
--- feature lacks a capability bit (A2), and the container's strings are document 01's (A3); what is read is then as it was. Assumes nothing.
-use Prim.Native.Nat.{ℕ, _<_}
+-- feature lacks a capability bit (A2), and the container's strings are document 01's (A3); what is read is then as it was. What A3 changes
+-- was 11 at the container. Assumes nothing.
+use Prim.Native.Nat.{ℕ, zero, suc, _<_}
 use mathlib.Core.Path.{_≡_, refl, sym, ap, subst, _∙_}
 use mathlib.Core.Bool.{Bool, true, false, false≢true}
 use mathlib.Core.List.{List, [], _∷_, _++_, map}
 use mathlib.Core.Logic.{_↔_}
 use Prim.Native.String.{String}
 use native.Mathlib.Omega.{arith}
+use lib.Dec.{leb}
 use lib.ListN.{length}
-use Rattle.refusal.specs.Refusal.{Fault, fault, Placed}
-use Rattle.refusal.specs.Checks.{Check, check}
+use Rattle.refusal.specs.Refusal.{Fault, fault, Placed, placed, refuseAt}
+use Rattle.refusal.specs.Checks.{Check, check, firstFault}
 use Rattle.refusal.proofs.Checks.{Passes, passes-both, passes-join}
 use Rattle.cells.specs.Bytes.{Each}
 use Rattle.cells.specs.Rows.{padded}
@@ -17,21 +19,25 @@ use Rattle.characters.specs.Characters.{bytes}
 use Rattle.strings.specs.Strings.{sameBytes}
 use Rattle.strings.proofs.Strings.{same-true, same-refl}
 use Rattle.stringlist.specs.StringList.{stringsBytes, AreStrings}
-use Rattle.container.specs.Container.{ContainerType, shortType, ContainerCompatible}
+use Rattle.container.specs.Container.{ContainerType, shortType, ContainerCompatible, isContainerType, isContainerCompatible}
 use Rattle.container.proofs.Exactly.{type-exactly, compatible-exactly}
 use Rattle.record.specs.declared.Record.{Record}
 use Rattle.record.specs.Record.{mostFeatures, slotCount, noFeature, noFeatures}
-use Rattle.walk.specs.Checked.{checkTree}
-use Rattle.nodes.specs.Nodes.{Node, children}
+use Rattle.header.specs.Header.{blocksOf}
+use Rattle.walk.specs.declared.Layout.{Layout}
+use Rattle.walk.specs.Checked.{layoutOf, checkTree}
+use Rattle.walk.specs.Faults.{CheckEnds, answered, headerRefused, walkRefused}
+use Rattle.walk.proofs.CheckEnds.{check-ends}
+use Rattle.nodes.specs.Nodes.{Node, nodeAt, children}
 use Rattle.nodes.specs.Values.{Value, missing, value, valueOf, bytesOf, isCell, number}
 use Rattle.reading.specs.Features.{inOrder, featureChecks}
 use Rattle.reading.specs.Dependencies.{Resolution, unknown, found, slotsOf}
-use Rattle.reading.specs.Reading.{containerProperties, readChecks, recordWith, recordBy, recordOf, readRecord}
+use Rattle.reading.specs.Reading.{containerProperties, containersOf, readChecks, recordWith, recordBy, recordOf, readRecord}
 use Rattle.reading.specs.Accepted.{containerOf, featuresOf}
 use Rattle.reading.proofs.Passed.{holds-true}
 use Rattle.reading.proofs.Accepts.{true-holds}
 use Rattle.reading.proofs.FeatureBefore.{HasCapability, featureChecksBefore, then-now, now-then, featureBefore, feature-before}
-use Rattle.reading.proofs.ReadBy.{Rules, RulesNumbered, readBy, accepted-parts, accepted-alike}
+use Rattle.reading.proofs.ReadBy.{Rules, RulesNumbered, checksBy, readBy, accepted-parts, accepted-alike}
 
 -- before A3: "each one string with its zero byte"
 abbrev isText : String → Value → Bool
@@ -104,13 +110,19 @@ module _ (c : Node) where
     compatible = text-exactly "ibm,powerpc-cpu-features" (valueOf c "compatible") (omega arith) .0 (holds-true _ (p .1 .0));
   }
 
-  properties-now : Passes (propertiesBefore c) → Passes (containerProperties c)
-  properties-now p =
-      let s = strings-then p in
-      let t = subst ContainerType (sym (s .deviceType)) shortType in
+  type-now : isText "cpu-features" (valueOf c "device_type") ≡ true → isContainerType (bytesOf (valueOf c "device_type")) ≡ true
+  type-now h =
+      let e = text-exactly "cpu-features" (valueOf c "device_type") (omega arith) .0 h in
+      type-exactly (bytesOf (valueOf c "device_type")) .1 (subst ContainerType (sym e) shortType)
+
+  compatible-now : isText "ibm,powerpc-cpu-features" (valueOf c "compatible") ≡ true → isContainerCompatible (bytesOf (valueOf c "compatible")) ≡ true
+  compatible-now h =
+      let e = text-exactly "ibm,powerpc-cpu-features" (valueOf c "compatible") (omega arith) .0 h in
       let one : ContainerCompatible (bytes "ibm,powerpc-cpu-features" ++ 0 ∷ []) = record { before = []; after = []; strings = alone } in
-      let k = subst ContainerCompatible (sym (s .compatible)) one in
-      (true-holds (type-exactly (bytesOf (valueOf c "device_type")) .1 t), (true-holds (compatible-exactly (bytesOf (valueOf c "compatible")) .1 k), p .1 .1))
+      compatible-exactly (bytesOf (valueOf c "compatible")) .1 (subst ContainerCompatible (sym e) one)
+
+  properties-now : Passes (propertiesBefore c) → Passes (containerProperties c)
+  properties-now p = (true-holds (type-now (holds-true _ (p .0))), (true-holds (compatible-now (holds-true _ (p .1 .0))), p .1 .1))
 
   properties-then : Passes (containerProperties c) → OneString c → Passes (propertiesBefore c)
   properties-then p s = (
@@ -158,6 +170,29 @@ record-before c = go (slotsOf (children c) (children c))
       slots = padded slotCount 0 slots;
     }
 
+-- A3: checks that do not find 11 at the container find what they found
+module _ (start : ℕ) (containers : List Node) (r : Placed Record) where
+  abbrev container : Node
+  container = nodeAt containers 0
+
+  abbrev judged : Rules → Placed Record
+  judged rules = firstFault (refuseAt noFeatures) (checksBy rules start containers) r
+
+  same-checks : (judged rulesBeforeStrings ≡ refuseAt noFeatures (fault 11 (container .at)) → ⊥) → judged rulesNow ≡ judged rulesBeforeStrings
+  unfolding firstFault
+  same-checks n =
+      go (leb 1 (length containers)) refl (leb (length containers) 1) refl
+      (isText "cpu-features" (valueOf container "device_type")) refl (isText "ibm,powerpc-cpu-features" (valueOf container "compatible")) refl
+    where
+      go : (p : Bool) → leb 1 (length containers) ≡ p → (q : Bool) → leb (length containers) 1 ≡ q
+          → (d : Bool) → isText "cpu-features" (valueOf container "device_type") ≡ d
+          → (g : Bool) → isText "ibm,powerpc-cpu-features" (valueOf container "compatible") ≡ g → judged rulesNow ≡ judged rulesBeforeStrings
+      go false e q k d f g h = rw e
+      go true e false k d f g h = rw (e, k)
+      go true e true k false f g h = absurd (n (rw (e, k, f)))
+      go true e true k true f false h = absurd (n (rw (e, k, f, h)))
+      go true e true k true f true h = rw (e, k, f, h, type-now container f, compatible-now container h)
+
 module _ (tree : List ℕ) where
   abbrev numberRead : Placed Record → ℕ
   numberRead r = r .number
@@ -166,12 +201,23 @@ module _ (tree : List ℕ) where
   unfolding readRecord readChecks
   now = refl
 
-  -- A3: accepted before, accepted with the same record
-  pub read-before-strings : readBeforeStrings tree .number ≡ 0 → readRecord tree ≡ readBeforeStrings tree
+  -- A3: what was not refused with 11 at the container is answered as it was
+  after-walk : {x : Placed Layout} → CheckEnds tree x
+      → (readBy rulesBeforeStrings tree x ≡ refuseAt noFeatures (fault 11 (containerOf tree .at)) → ⊥) → readBy rulesNow tree x ≡ readBy rulesBeforeStrings tree x
+  unfolding layoutOf
+  after-walk (answered h w) n = same-checks (blocksOf tree .start) (containersOf tree (blocksOf tree)) (placed (recordOf (containerOf tree))) n
+  after-walk (headerRefused {number = zero} h l m q) n = absurd (omega arith)
+  after-walk (headerRefused {number = suc k} h l m q) n = refl
+  after-walk (walkRefused {number = zero} h f) n = absurd (omega (arith, f .least))
+  after-walk (walkRefused {number = suc k} h f) n = refl
+
+  pub same-unless-11 : (readBeforeStrings tree ≡ refuseAt noFeatures (fault 11 (containerOf tree .at)) → ⊥) → readRecord tree ≡ readBeforeStrings tree
   unfolding readBeforeStrings
-  read-before-strings z =
-      let p = accepted-parts tree rulesBeforeStrings numbered-strings z in
-      now ∙ accepted-alike tree rulesBeforeStrings numbered-strings z rulesNow (properties-now (containerOf tree) (p .propertiesHold)) (p .featuresHold) refl
+  same-unless-11 n = now ∙ after-walk (check-ends tree) n
+
+  -- so what was accepted is accepted, with the same record
+  pub read-before-strings : readBeforeStrings tree .number ≡ 0 → readRecord tree ≡ readBeforeStrings tree
+  read-before-strings z = same-unless-11 (λ e. let k : _≡_ {A = ℕ} 0 11 = sym z ∙ ap numberRead e in omega arith)
 
   back-strings : readRecord tree .number ≡ 0 → OneString (containerOf tree) → readBeforeStrings tree .number ≡ 0
   unfolding readBeforeStrings
