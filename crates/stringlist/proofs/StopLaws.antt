@@ -110,7 +110,10 @@ unfolding stopIn splitAtZeros endingOf
 first-found list text {place} {from} {to} s = go (here list 0) refl
   where
     go : (t : Text) → here list 0 ≡ t → (from ≡ 0) × Found list 0 to
-    go unended h = let e : StopsAt place from to ≡ End 0 = s ∙ sym (stop-none list text 0 0 0 (ap (endingOf 0) h)) in let z : _≡_ {A = ℕ} 0 1 = cc in absurd (omega arith)
+    go unended h =
+        let e : StopsAt place from to ≡ End 0 = s ∙ sym (stop-none list text 0 0 0 (ap (endingOf 0) h)) in
+        let z : _≡_ {A = ℕ} 0 1 = cc in
+        absurd (omega arith)
     go (ended cs) h =
         let f : Found list 0 (length cs) = record { characters = cs; text = h; end = omega arith } in
         let e : StopsAt place from to ≡ StopsAt 0 0 (length cs) = s ∙ sym (stops (sameBytes (take (length cs - 0) (drop 0 list)) text) refl f) in

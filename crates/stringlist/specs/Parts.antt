@@ -8,7 +8,8 @@ use Rattle.strings.specs.Strings.{sameBytes}
 use Rattle.stringlist.specs.declared.Stop.{Stop}
 use Rattle.stringlist.specs.declared.Stop.the-variants.{At, End}
 
--- where a scan of some strings stops, of which the first stands at a place and begins at an offset
+-- where a scan of some strings stops: at the first that is the text or stands at the place sought, else behind the last; the first of them
+-- stands at `place` and begins at `from`
 unfoldable pub stopIn : List ℕ → ℕ → ℕ → ℕ → List (List ℕ) → Stop
 stopIn text sought place from [] = End place
 stopIn text sought place from (t ∷ ts) =

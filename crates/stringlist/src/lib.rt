@@ -77,6 +77,7 @@ pub fn string_place(list: &[u8], text: &[u8]) -> Position
 pub fn is_only_string(list: &[u8], text: &[u8]) -> bool
     ensures { λ r. ⌜ r ≡ isOnlyString (now (list .entry)) (now (text .entry)) ⌝ }
 {
+    // The scan stops at the first string, whichever it is.
     match scan(list, text, 0) {
         Stop::At { place: _, from, to } => {
             if to + 1 < list.len() {
