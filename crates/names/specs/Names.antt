@@ -14,9 +14,9 @@ use Rattle.names.specs.declared.NameRead.the-variants.{Good, Bad}
 abbrev pub mostNodeName : ℕ
 mostNodeName = 63
 
--- "A property name has 1 to 31"
+-- "A property name has 1 to 31"; by A13 of document 02, "7 for property names moves to 63"
 abbrev pub mostPropertyName : ℕ
-mostPropertyName = 31
+mostPropertyName = 63
 
 -- the character `@`
 abbrev pub atSign : ℕ

@@ -8,7 +8,7 @@ ghost use Rattle.names.specs.Names.{nameOutcome, nodeNameAt, propertyNam
 pub const MOST_NODE_NAME: usize = 63;
 
 // The most characters of a property name.
-pub const MOST_PROPERTY_NAME: usize = 31;
+pub const MOST_PROPERTY_NAME: usize = 63;
 
 const AT_SIGN: u8 = 64;
 

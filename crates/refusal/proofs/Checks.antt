@@ -181,6 +181,20 @@ outcome-number none value (c ∷ cs) = go (c .holds) refl (outcome-number none v
     go true e f = rw (e, firstFault) f
     go false e f = rw (e, firstFault)
 
+-- an outcome whose value goes through a function: that of the same checks, with the values that the function gives
+module _ {A B : Type 0} (f : A → B) (none value : A) (none′ value′ : B) where
+  abbrev Through : List (Check ℕ) → Type 0
+  Through cs = let o = firstFault (refuse none) cs (answer value) in record { number = o .number; value = f (o .value) } ≡ firstFault (refuse none′) cs (answer value′)
+
+  pub outcome-through : (cs : List (Check ℕ)) → f none ≡ none′ → (Passes cs → f value ≡ value′) → Through cs
+  unfolding firstFault
+  outcome-through [] z e = ap answer (e tt)
+  outcome-through (c ∷ cs) z e = go (c .holds) refl (λ p. outcome-through cs z p)
+    where
+      go : (b : Bool) → c .holds ≡ b → ((Passes cs → f value ≡ value′) → Through cs) → Through (c ∷ cs)
+      go true h more = rw (h, firstFault) (more (λ p. e (rw h tt, p)))
+      go false h more = rw (h, firstFault, z)
+
 -- an outcome that is an answer passed all of its checks
 pub answered : {A : Type 0} (none value : A) (cs : List (Check ℕ)) → Numbered cs → firstFault (refuse none) cs (answer value) .number ≡ 0 → Passes cs
 answered none value cs n e = no-fault-passes cs n (sym (outcome-number none value cs) ∙ e)

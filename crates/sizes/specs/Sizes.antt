@@ -1,5 +1,6 @@
 -- Sizes in plain cells: `ibm,processor-page-sizes` and `ibm,processor-segment-sizes` (document 01, "CPU properties and unit text"; document
--- 02, A1). How a cell reads is a rule of the property, and the checks are stated over any such rule.
+-- 02, A1), and those in the cells of `ibm,processor-radix-AP-encodings` (document 02, A13). How a cell reads is a rule of the property, and
+-- the checks are stated over any such rule.
 use Prim.Native.Nat.{ℕ, _-_, _%_, _^_}
 use mathlib.Core.Bool.{Bool, true, cond}
 use mathlib.Core.List.{List, [], _∷_, _++_, map}
@@ -33,6 +34,13 @@ sizeOnly n = Exponent n
 -- of segment sizes, "cells of all ones .. In this property such a cell now means "no size here""
 unfoldable pub sizeOrNone : ℕ → Size
 sizeOrNone n = cond (eqb n noSize) None (Exponent n)
+
+-- of radix encodings, "the AP field .. is the top three bits of the cell, the page exponent the other 29"
+abbrev pub apBit : ℕ
+apBit = 2 ^ 29
+
+abbrev pub radixSize : ℕ → Size
+radixSize n = Exponent (n % apBit)
 
 -- the exponents of the places that have a size, in order
 abbrev pub exponentsIn : List Size → List ℕ
@@ -78,6 +86,9 @@ pageSizes = sizes sizeOnly
 
 abbrev pub segmentSizes : List ℕ → Outcome SizeTable
 segmentSizes = sizes sizeOrNone
+
+abbrev pub radixSizes : List ℕ → Outcome SizeTable
+radixSizes = sizes radixSize
 
 -- what an answer says: the number of document 01, and the table
 abbrev pub sizesOutcome : Sizes → Outcome SizeTable

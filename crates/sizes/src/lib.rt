@@ -1,9 +1,9 @@
 // Page and segment sizes: cells that are exponents of powers of two, strictly ascending. A cell of segment sizes may say that there is no
-// size in its place.
+// size in its place; one of radix encodings has more than an exponent in it.
 use refusal::Refusal;
 ghost use mathlib.Core.Path.{_≡_};
 ghost use Rattle.refusal.specs.Refusal.{numberOf, refuse};
-ghost use Rattle.sizes.specs.Sizes.{noSizes, sizeOrNone, sizes, pageSizes, segmentSizes, sizesOutcome};
+ghost use Rattle.sizes.specs.Sizes.{noSizes, sizeOrNone, sizes, pageSizes, segmentSizes, radixSizes, sizesOutcome};
 ghost use Rattle.sizes.specs.Parts.{ruleOf};
 
 // The most cells of a table of sizes.
@@ -15,13 +15,17 @@ pub const LARGEST_EXPONENT: u32 = 63;
 // The cell of segment sizes that says that there is no size in its place.
 pub const NO_SIZE: u32 = 0xffffffff;
 
+// A cell of radix encodings has its page exponent below this bit, and the AP encoding from it on.
+pub const AP_BIT: u32 = 0x20000000;
+
 // What stands in a place of a table: a size, by its exponent, or none.
 pub enum Size {
     Exponent(u32),
     None,
 }
 
-// The cells of a table, each in its place, and zeros. Of page sizes each is an exponent; of segment sizes `size_or_none` says what it is.
+// The cells of a table, each in its place, and zeros. Of page sizes each is an exponent; of segment sizes `size_or_none` says what it is;
+// of radix encodings the exponent is what is below `AP_BIT`.
 #[repr(C)]
 pub struct SizeTable {
     pub count: u32,
@@ -37,6 +41,7 @@ pub struct Sizes {
 enum Rule {
     SizeOnly,
     SizeOrNone,
+    RadixSize,
 }
 
 // What a cell of segment sizes says.
@@ -55,6 +60,7 @@ fn size_by(rule: Rule, cell: u32) -> Size
     match rule {
         Rule::SizeOnly => Size::Exponent(cell),
         Rule::SizeOrNone => size_or_none(cell),
+        Rule::RadixSize => Size::Exponent(cell % AP_BIT),
     }
 }
 
@@ -123,4 +129,11 @@ pub fn segment_sizes(value: &[u8]) -> Sizes
     ensures { λ r. ⌜ sizesOutcome r ≡ segmentSizes (now (value .entry)) ⌝ }
 {
     sizes_by(Rule::SizeOrNone, value)
+}
+
+// The cells of a value of `ibm,processor-radix-AP-encodings`, whole. Refusals: 11, 8, then cell by cell 12, 19, of the exponent in it.
+pub fn radix_sizes(value: &[u8]) -> Sizes
+    ensures { λ r. ⌜ sizesOutcome r ≡ radixSizes (now (value .entry)) ⌝ }
+{
+    sizes_by(Rule::RadixSize, value)
 }
