@@ -206,7 +206,7 @@ numbered-from (suc most) value at = go (ltb at (length value)) (numbered-from mo
     go true h = numbered-both (descriptorChecks value at) (checksFrom most value (nextAt value at)) (omega arith) h
     go false h = tt
 
-numbered : (value : List ℕ) → Numbered (attributeChecks value)
+pub numbered : (value : List ℕ) → Numbered (attributeChecks value)
 unfolding attributeChecks typeChecks
 numbered value = (omega arith, numbered-both (checksFrom (length value) value 0) (typeChecks value) (numbered-from (length value) value 0) (omega arith))
 

@@ -1,7 +1,7 @@
 -- `ibm,pa-features`, `ibm,pi-features` and `ibm,extended-bus-frequency` (document 01, "CPU properties and unit text").
 use Prim.Native.Nat.{ℕ, zero, suc, _+_, _-_, _/_, _≤_}
 use mathlib.Core.Path.{_≡_}
-use mathlib.Core.Bool.{true, false}
+use mathlib.Core.Bool.{true, false, cond}
 use mathlib.Core.List.{List, [], _∷_, _++_}
 use lib.Dec.{leb, ltb, eqb}
 use lib.ListN.{length, take, drop, replicate}
@@ -93,9 +93,16 @@ pub record Located (value : List ℕ) (number from to : ℕ) : Type 0 where
 abbrev pub topBit : ℕ → ℕ
 topBit b = b / 128
 
+-- A13 of document 02: "in 1 bytes 24 to 253 are handed on raw too"; in edition 0, "bytes from 24 are ignored"
+abbrev pub firstLater : ℕ
+firstLater = 24
+
+unfoldable pub laterBytes : List ℕ → List ℕ
+laterBytes bytes = padded (mostBytes - firstLater) 0 (drop firstLater bytes)
+
 -- "the top bit of byte 6 means data streams 2.07, of 16 vector, 18 vector scalar, 20 vector crypto, 22 transactional memory; bytes 8
--- to 15 are the coprocessor word. Bytes not supplied read as zero; reserved bits and bytes from 24 are ignored; bytes 0 to 5 are
--- handed on raw"
+-- to 15 are the coprocessor word. Bytes not supplied read as zero; reserved bits .. are ignored; bytes 0 to 5 are handed on raw"; A13:
+-- "bytes 24 to 253 are handed on raw too, and the top bit of byte 38 means copy and paste, of 40 radix translation, of 64 a second watchpoint"
 unfoldable pub paTable : List ℕ → PaTable
 paTable bytes = record {
   raw = each 6 (byteAt bytes);
@@ -104,8 +111,27 @@ paTable bytes = record {
   «vector_scalar» = topBit (byteAt bytes 18);
   «vector_crypto» = topBit (byteAt bytes 20);
   «transactional_memory» = topBit (byteAt bytes 22);
+  «copy_paste» = topBit (byteAt bytes 38);
+  «radix_translation» = topBit (byteAt bytes 40);
+  «second_watchpoint» = topBit (byteAt bytes 64);
   coprocessor = wordAt bytes 8;
+  «raw_later» = laterBytes bytes;
 }
+
+-- A13: "The caller names the edition"
+abbrev pub editionFirst : ℕ
+editionFirst = 0
+
+abbrev pub editionLater : ℕ
+editionLater = 1
+
+-- the bytes that an edition knows: "0 behaves as before", where "bytes from 24 are ignored"; in 1 all
+unfoldable pub knownBytes : ℕ → List ℕ → List ℕ
+knownBytes edition bytes = cond (eqb edition editionFirst) (take firstLater bytes) bytes
+
+-- A13: "15 also for an unknown edition, before all else"
+unfoldable pub paChecks : ℕ → List ℕ → List (Check ℕ)
+paChecks edition value = check (leb edition editionLater) 15 ∷ attributeChecks value
 
 unfoldable pub noAttributes : PaTable
 noAttributes = record {
@@ -115,11 +141,15 @@ noAttributes = record {
   «vector_scalar» = 0;
   «vector_crypto» = 0;
   «transactional_memory» = 0;
+  «copy_paste» = 0;
+  «radix_translation» = 0;
+  «second_watchpoint» = 0;
   coprocessor = 0;
+  «raw_later» = replicate (mostBytes - firstLater) 0;
 }
 
-unfoldable pub paFeatures : List ℕ → Outcome PaTable
-paFeatures value = firstFault (refuse noAttributes) (attributeChecks value) (answer (paTable (attributeBytes value)))
+unfoldable pub paFeatures : ℕ → List ℕ → Outcome PaTable
+paFeatures edition value = firstFault (refuse noAttributes) (paChecks edition value) (answer (paTable (knownBytes edition (attributeBytes value))))
 
 -- "hands on all its bytes raw, with zeros up to 254, and their number"
 unfoldable pub piTable : List ℕ → PiTable

@@ -1,2 +1,3 @@
 pub mod Attributes
+pub mod Described
 pub mod Reserved

@@ -3,12 +3,15 @@ use refusal::Refusal;
 ghost use mathlib.Core.Path.{_≡_};
 ghost use Prim.Native.Nat.{_≤_, _<_};
 ghost use lib.ListN.{length};
+ghost use Rattle.cells.specs.Buffer.{written};
 ghost use Rattle.refusal.specs.Refusal.{numberOf};
 ghost use Rattle.refusal.specs.Checks.{faultOf};
 ghost use Rattle.attributes.specs.Attributes.{
   descriptorChecks,
   Located,
+  laterBytes,
   paTable,
+  knownBytes,
   paFeatures,
   paOutcome,
   piTable,
@@ -21,7 +24,15 @@ ghost use Rattle.attributes.specs.Attributes.{
 // The most bytes of an attribute descriptor.
 pub const MOST_BYTES: usize = 254;
 
-// The attributes of `ibm,pa-features`; each flag is 0 or 1.
+// The editions of `ibm,pa-features`. In the first, bytes from `FIRST_LATER` on are ignored.
+pub const EDITION_FIRST: u32 = 0;
+pub const EDITION_LATER: u32 = 1;
+
+// The first byte that the later edition adds, and how many it adds.
+pub const FIRST_LATER: usize = 24;
+pub const LATER_BYTES: usize = 230;
+
+// The attributes of `ibm,pa-features`; each flag is 0 or 1. Bytes 0 to 5 are raw, and those from `FIRST_LATER` on.
 #[repr(C)]
 pub struct PaTable {
     pub raw: [u8; 6],
@@ -30,7 +41,11 @@ pub struct PaTable {
     pub vector_scalar: u8,
     pub vector_crypto: u8,
     pub transactional_memory: u8,
+    pub copy_paste: u8,
+    pub radix_translation: u8,
+    pub second_watchpoint: u8,
     pub coprocessor: u64,
+    pub raw_later: [u8; LATER_BYTES],
 }
 
 pub struct PaFeatures {
@@ -132,8 +147,33 @@ fn type_zero(value: &[u8]) -> TypeZero
     }
 }
 
-// The attributes that the bytes of a descriptor say; bytes not supplied are zero.
+// Puts bytes into the front of a row.
+fn put_bytes(row: &mut [u8], bytes: &[u8])
+    requires { ⌜ length (now bytes) ≤ length (now row) ⌝ }
+    ensures { λ _. ⌜ now (row .exit) ≡ written (now (row .entry)) 0 (now (bytes .entry)) ⌝ }
+{
+    let mut i = 0;
+    while i < bytes.len() {
+        row[i] = bytes[i];
+        i += 1;
+    }
+}
+
+// The later bytes of a descriptor, and zeros.
+fn later_bytes(bytes: &[u8]) -> [u8; LATER_BYTES]
+    requires { ⌜ length (now bytes) ≤ 254 ⌝ }
+    ensures { λ r. ⌜ r ≡ laterBytes (now (bytes .entry)) ⌝ }
+{
+    let mut later: [u8; LATER_BYTES] = [0; LATER_BYTES];
+    if FIRST_LATER < bytes.len() {
+        put_bytes(&mut later, &bytes[FIRST_LATER..bytes.len()]);
+    }
+    later
+}
+
+// The attributes that bytes say; bytes not supplied are zero.
 fn attributes(bytes: &[u8]) -> PaTable
+    requires { ⌜ length (now bytes) ≤ 254 ⌝ }
     ensures { λ r. ⌜ r ≡ paTable (now (bytes .entry)) ⌝ }
 {
     let b0 = cells::byte_at(bytes, 0);
@@ -149,19 +189,41 @@ fn attributes(bytes: &[u8]) -> PaTable
         vector_scalar: cells::byte_at(bytes, 18) / 128,
         vector_crypto: cells::byte_at(bytes, 20) / 128,
         transactional_memory: cells::byte_at(bytes, 22) / 128,
+        copy_paste: cells::byte_at(bytes, 38) / 128,
+        radix_translation: cells::byte_at(bytes, 40) / 128,
+        second_watchpoint: cells::byte_at(bytes, 64) / 128,
         coprocessor: cells::word_at(bytes, 8),
+        raw_later: later_bytes(bytes),
     }
 }
 
-// The value of `ibm,pa-features`. Refusals: 11 for no bytes; descriptor by descriptor 11, 12, 11; 10; 9.
-pub fn pa_features(value: &[u8]) -> PaFeatures
-    ensures { λ r. ⌜ paOutcome r ≡ paFeatures (now (value .entry)) ⌝ }
+// The attributes of a descriptor in an edition: in the first, of its bytes below `FIRST_LATER`.
+fn edition_attributes(edition: u32, bytes: &[u8]) -> PaTable
+    requires { ⌜ length (now bytes) ≤ 254 ⌝ }
+    ensures { λ r. ⌜ r ≡ paTable (knownBytes edition (now (bytes .entry))) ⌝ }
 {
+    if edition == EDITION_FIRST {
+        return attributes(&bytes[0..cells::least(bytes.len(), FIRST_LATER)]);
+    }
+    attributes(bytes)
+}
+
+// The value of `ibm,pa-features`, in an edition. Refusals: 15 for an edition other than the two; 11 for no bytes; descriptor by
+// descriptor 11, 12, 11; 10; 9.
+pub fn pa_features(value: &[u8], edition: u32) -> PaFeatures
+    ensures { λ r. ⌜ paOutcome r ≡ paFeatures edition (now (value .entry)) ⌝ }
+{
+    if EDITION_LATER < edition {
+        return PaFeatures {
+            refusal: Refusal::Level,
+            table: attributes(&value[0..0]),
+        };
+    }
     let found = type_zero(value);
     let refusal = found.refusal;
     let from = found.from;
     let to = found.to;
-    let table = attributes(&value[from..to]);
+    let table = edition_attributes(edition, &value[from..to]);
     PaFeatures { refusal, table }
 }
 
@@ -170,17 +232,12 @@ fn raw_bytes(bytes: &[u8]) -> PiTable
     requires { ⌜ length (now bytes) ≤ 254 ⌝ }
     ensures { λ r. ⌜ r ≡ piTable (now (bytes .entry)) ⌝ }
 {
-    let mut table = PiTable {
-        count: 0,
-        bytes: [0; 254],
-    };
-    let mut i = 0;
-    while i < bytes.len() {
-        table.bytes[i] = bytes[i];
-        i += 1;
+    let mut row: [u8; MOST_BYTES] = [0; MOST_BYTES];
+    put_bytes(&mut row, bytes);
+    PiTable {
+        count: bytes.len() as u32,
+        bytes: row,
     }
-    table.count = i as u32;
-    table
 }
 
 // The value of `ibm,pi-features`. Refusals as for `ibm,pa-features`.

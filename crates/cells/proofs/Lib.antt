@@ -1,5 +1,6 @@
 pub mod Cells
 pub mod Buffer
+pub mod Copying
 pub mod Rows
 pub mod Lists
 pub mod Standing

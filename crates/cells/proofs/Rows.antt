@@ -5,8 +5,8 @@ use Prim.Native.Nat.{ℕ, suc, zero, _+_, _-_, _<_, _≤_}
 use native.Mathlib.Decide.{decLt}
 use native.Mathlib.Omega.{arith}
 use native.Mathlib.Numerals.{add-one}
-use lib.ListN.{getD, length, set, take, replicate, length-append, length-replicate, List·getD-append}
-use lib.Seq.{getD-at, set-at, length-take-le, take-suc, take-length}
+use lib.ListN.{getD, length, set, take, replicate, length-append, length-replicate, List·getD-append, List·getD-eq-default}
+use lib.Seq.{getD-at, getD-append-add, set-at, length-take-le, take-suc, take-length}
 use Rattle.cells.specs.Rows.{each, padded}
 
 module _ {A : Type 0} where
@@ -55,3 +55,23 @@ module _ {A : Type 0} where
       let k : length (take i xs) < m = omega arith in
       rw (add-one i, take-suc xs i z l)
       (ap (λ (j : ℕ). set (padded m z (take i xs)) j (getD xs i z)) (sym n) ∙ padded-more m z (take i xs) (getD xs i z) k)
+
+  -- behind the list there is only the padding, and so a row has what the list has
+  replicate-at : (z : A) (n k : ℕ) → getD (replicate n z) k z ≡ z
+  replicate-at z zero k = refl
+  replicate-at z (suc n) zero = refl
+  replicate-at z (suc n) (suc k) = replicate-at z n k
+
+  pub padded-behind : (m : ℕ) (z : A) (xs : List A) (i : ℕ) → length xs ≤ i → getD (padded m z xs) i z ≡ z
+  padded-behind m z xs i h =
+      let e : i ≡ length xs + (i - length xs) = omega arith in
+      ap (λ (x : ℕ). getD (padded m z xs) x z) e
+      ∙ getD-append-add xs (replicate (m - length xs) z) (i - length xs) z
+      ∙ replicate-at z (m - length xs) (i - length xs)
+
+  pub padded-at : (m : ℕ) (z : A) (xs : List A) (i : ℕ) → getD (padded m z xs) i z ≡ getD xs i z
+  padded-at m z xs i = go (decLt i (length xs))
+    where
+      go : Dec (i < length xs) → getD (padded m z xs) i z ≡ getD xs i z
+      go (yes h) = List·getD-append xs (replicate (m - length xs) z) z i h
+      go (no h) = padded-behind m z xs i (omega arith) ∙ sym (List·getD-eq-default xs z (omega arith))

@@ -1,13 +1,13 @@
 -- Laws of texts that are put into a buffer, one behind the other. Assumes nothing.
 use mathlib.Core.Path.{_≡_, refl, sym, ap, subst, _∙_}
 use mathlib.Core.List.{List, [], _++_, append-assoc}
-use Prim.Native.Nat.{ℕ, _+_, _<_, _≤_}
+use Prim.Native.Nat.{ℕ, _+_, _≤_}
 use native.Mathlib.Omega.{arith}
-use native.Mathlib.Numerals.{add-one}
-use lib.ListN.{getD, length, take, drop, set, length-append}
-use lib.Seq.{take-all, take-at, drop-at, drop-drop, length-take-le, paste, paste-zero, paste-suc, length-paste}
+use lib.ListN.{length, take, drop, length-append}
+use lib.Seq.{take-at, drop-at, drop-drop, length-take-le}
 use Rattle.cells.specs.Buffer.{written}
 use Rattle.cells.proofs.Buffer.{written-none}
+use Rattle.cells.proofs.Copying.{Copying, copy-length, copy-whole}
 use Rattle.listing.specs.Parts.{Put}
 
 pub put-none : (old : List ℕ) (at : ℕ) → at ≤ length old → Put old at [] old at
@@ -61,40 +61,11 @@ put-then {old} {text} {mid} {more} {new} {at} {next} {end} p q = record {
 pub put-as : {old text other new : List ℕ} {at next : ℕ} → text ≡ other → Put old at text new next → Put old at other new next
 put-as {old} {new = new} {at} {next} e p = subst (λ (l : List ℕ). Put old at l new next) e p
 
--- a text is put a byte at a time
-pub record Copying (old : List ℕ) (at : ℕ) (text line : List ℕ) (i : ℕ) : Type 0 where
-  pub within : i ≤ length text
-  pub fits : at + length text ≤ length old
-  pub holds : line ≡ paste old at text i
-
-pub copy-begins : (old : List ℕ) (at : ℕ) (text : List ℕ) → at + length text ≤ length old → Copying old at text old 0
-copy-begins old at text h = record { within = omega arith; fits = h; holds = paste-zero old at text }
-
-module _ {old : List ℕ} {at : ℕ} {text line : List ℕ} {i : ℕ} (w : Copying old at text line i) where
-  pub copy-length : length line ≡ length old
-  copy-length = ap length (w .holds) ∙ length-paste old at text i (omega (arith, w .within, w .fits)) (w .within)
-
-  pub copy-more : i < length text → Copying old at text (set line (at + i) (getD text i 0)) (i + 1)
-  copy-more h = record {
-    within = omega arith;
-    fits = w .fits;
-    holds =
-        ap (λ (l : List ℕ). set l (at + i) (getD text i 0)) (w .holds)
-        ∙ paste-suc old at text i 0 (omega (arith, w .fits)) h
-        ∙ ap (paste old at text) (sym (add-one i));
-  }
-
-  pub copy-ends : length text ≤ i → Put old at text line (at + i)
-  unfolding written
-  copy-ends h =
-      let e : i ≡ length text = omega (arith, w .within) in
-      record {
-        stands =
-            w .holds
-            ∙ ap (λ (n : ℕ). take at old ++ take n text ++ drop (at + n) old) e
-            ∙ append-assoc (take at old) (take (length text) text) (drop (at + length text) old)
-            ∙ ap (λ (l : List ℕ). take at old ++ (l ++ drop (at + length text) old)) (take-all (length text) text (omega arith));
-        reached = ap (λ (n : ℕ). at + n) e;
-        room = w .fits;
-        size = copy-length;
-      }
+-- a text that is copied to its end is put
+pub copy-ends : {old : List ℕ} {at : ℕ} {text line : List ℕ} {i : ℕ} → Copying old at text line i → length text ≤ i → Put old at text line (at + i)
+copy-ends {old} {at} {text} {line} {i} w h = record {
+  stands = copy-whole w h;
+  reached = ap (λ (n : ℕ). at + n) (omega (arith, w .within));
+  room = w .fits;
+  size = copy-length w;
+}

@@ -1,12 +1,11 @@
 -- Where a record keeps what it was read from: features by position, and sixteen slots for each of them. Assumes nothing.
-use mathlib.Core.Path.{_≡_, refl, sym, ap, _∙_}
+use mathlib.Core.Path.{_≡_, sym, ap, _∙_}
 use mathlib.Core.List.{List, map}
-use Prim.Native.Nat.{ℕ, zero, suc, _+_, _-_, _*_, _<_, _≤_}
+use Prim.Native.Nat.{ℕ, _-_, _<_, _≤_}
 use native.Mathlib.Omega.{arith}
 use lib.ListN.{length, getD, replicate, length-map, List·getD-append}
-use lib.Seq.{getD-append-add}
 use Rattle.cells.specs.Rows.{padded}
-use Rattle.cells.proofs.Rows.{length-padded}
+use Rattle.cells.proofs.Rows.{length-padded, padded-behind}
 use Rattle.positions.specs.declared.Position.the-variants.{At}
 use Rattle.record.specs.Record.{mostFeatures, mostDependencies, slotCount, noFeature, featureAt, slotAt}
 use Rattle.nodes.specs.Nodes.{Node, nodeAt, children}
@@ -22,19 +21,6 @@ use Rattle.reading.proofs.SlotRowLaws.{Rows, rows-length, row-at}
 pub feature-at : (c : Node) (slots : List ℕ) (i : ℕ) → i < length (children c) → featureAt (recordWith c slots) i ≡ featureOf (nodeAt (children c) i)
 unfolding recordWith
 feature-at c slots i h = row-node featureOf mostFeatures noFeature (children c) i h
-
--- behind a list there is only the padding
-replicate-at : {A : Type 0} (z : A) (n k : ℕ) → getD (replicate n z) k z ≡ z
-replicate-at z zero k = refl
-replicate-at z (suc n) zero = refl
-replicate-at z (suc n) (suc k) = replicate-at z n k
-
-padded-behind : {A : Type 0} (m : ℕ) (z : A) (xs : List A) (i : ℕ) → length xs ≤ i → getD (padded m z xs) i z ≡ z
-padded-behind m z xs i h =
-    let e : i ≡ length xs + (i - length xs) = omega arith in
-    ap (λ (x : ℕ). getD (padded m z xs) x z) e
-    ∙ getD-append-add xs (replicate (m - length xs) z) (i - length xs) z
-    ∙ replicate-at z (m - length xs) (i - length xs)
 
 pub no-feature : (c : Node) (slots : List ℕ) (i : ℕ) → length (children c) ≤ i → featureAt (recordWith c slots) i ≡ noFeature
 unfolding recordWith

@@ -37,25 +37,41 @@ byte-at-requires-10 c κs = search needs
 byte-at-requires-11 : tie.Need-byte-at-requires-11
 byte-at-requires-11 c κs = search needs
 
+byte-at-requires-12 : tie.Need-byte-at-requires-12
+byte-at-requires-12 c κs = search needs
+
+byte-at-requires-13 : tie.Need-byte-at-requires-13
+byte-at-requires-13 c κs = search needs
+
+byte-at-requires-14 : tie.Need-byte-at-requires-14
+byte-at-requires-14 c κs = search needs
+
 word-at-requires : tie.Need-word-at-requires
 word-at-requires c κs = search needs
+
+later-bytes-requires : tie.Need-later-bytes-requires
+later-bytes-requires c κs = search needs
 
 returns : tie.Need-returns
 unfolding paTable
 returns c =
     rw (
-      c .word-at .ensures,
-      c .before .byte-at11 .ensures,
-      c .before .before .byte-at10 .ensures,
-      c .before .before .before .byte-at9 .ensures,
-      c .before .before .before .before .byte-at8 .ensures,
-      c .before .before .before .before .before .byte-at7 .ensures,
-      c .before .before .before .before .before .before .byte-at6 .ensures,
-      c .before .before .before .before .before .before .before .byte-at5 .ensures,
-      c .before .before .before .before .before .before .before .before .byte-at4 .ensures,
-      c .before .before .before .before .before .before .before .before .before .byte-at3 .ensures,
-      c .before .before .before .before .before .before .before .before .before .before .byte-at2 .ensures,
-      c .before .before .before .before .before .before .before .before .before .before .before .byte-at .ensures,
+      c .later-bytes .ensures,
+      c .before .word-at .ensures,
+      c .before .before .byte-at14 .ensures,
+      c .before .before .before .byte-at13 .ensures,
+      c .before .before .before .before .byte-at12 .ensures,
+      c .before .before .before .before .before .byte-at11 .ensures,
+      c .before .before .before .before .before .before .byte-at10 .ensures,
+      c .before .before .before .before .before .before .before .byte-at9 .ensures,
+      c .before .before .before .before .before .before .before .before .byte-at8 .ensures,
+      c .before .before .before .before .before .before .before .before .before .byte-at7 .ensures,
+      c .before .before .before .before .before .before .before .before .before .before .byte-at6 .ensures,
+      c .before .before .before .before .before .before .before .before .before .before .before .byte-at5 .ensures,
+      c .before .before .before .before .before .before .before .before .before .before .before .before .byte-at4 .ensures,
+      c .before .before .before .before .before .before .before .before .before .before .before .before .before .byte-at3 .ensures,
+      c .before .before .before .before .before .before .before .before .before .before .before .before .before .before .byte-at2 .ensures,
+      c .before .before .before .before .before .before .before .before .before .before .before .before .before .before .before .byte-at .ensures,
     )
 
 pub attributes-spec : {M : Type 1} → statement M
@@ -73,5 +89,9 @@ attributes-spec =
     byte-at-requires-9
     byte-at-requires-10
     byte-at-requires-11
+    byte-at-requires-12
+    byte-at-requires-13
+    byte-at-requires-14
     word-at-requires
+    later-bytes-requires
     returns)

@@ -3,7 +3,8 @@ use borrow.Author.Needs.{needs}
 use native.Mathlib.Omega.{arith}
 use Prim.Native.Nat.{_-_}
 use lib.ListN.{length}
-use Rattle.listing.proofs.PutLaws.{Copying, copy-begins, copy-length, copy-more, copy-ends}
+use Rattle.cells.proofs.Copying.{Copying, copy-begins, copy-length, copy-more}
+use Rattle.listing.proofs.PutLaws.{copy-ends}
 use Rattle.listing.proofs.put.Statement.{statement}
 use Rattle.listing.proofs.put.Tie as tie
 
