@@ -5,13 +5,15 @@ use mathlib.Core.List.{List}
 use Rattle.refusal.specs.Refusal.{Outcome}
 use Rattle.sizes.specs.declared.SizeTable.{SizeTable}
 use Rattle.segments.specs.declared.SegmentTable.{SegmentTable}
+use Rattle.radix.specs.declared.RadixTable.{RadixTable}
 use Rattle.attributes.specs.declared.PaTable.{PaTable}
 use Rattle.attributes.specs.declared.PiTable.{PiTable}
 use Rattle.enabled.specs.Answers.{Members}
 use Rattle.words.specs.Words.{WordValues}
-use Rattle.answers.specs.Answers.{sizesOutcomeC, segmentsOutcomeC, paOutcomeC, piOutcomeC, busOutcomeC, unitOutcomeC, stringPlaceOutcomeC, permittedOutcomeC, enabledOutcomeC, reachOutcomeC, writtenOutcomeC, wordsOutcomeC}
+use Rattle.answers.specs.Answers.{sizesOutcomeC, segmentsOutcomeC, radixOutcomeC, paOutcomeC, piOutcomeC, busOutcomeC, unitOutcomeC, stringPlaceOutcomeC, permittedOutcomeC, enabledOutcomeC, reachOutcomeC, writtenOutcomeC, wordsOutcomeC}
 use Rattle.answers.specs.declared.YebkuzanSizes.{YebkuzanSizes}
 use Rattle.answers.specs.declared.YebkuzanSegments.{YebkuzanSegments}
+use Rattle.answers.specs.declared.YebkuzanRadixEncodings.{YebkuzanRadixEncodings}
 use Rattle.answers.specs.declared.YebkuzanPaFeatures.{YebkuzanPaFeatures}
 use Rattle.answers.specs.declared.YebkuzanPiFeatures.{YebkuzanPiFeatures}
 use Rattle.answers.specs.declared.YebkuzanBusFrequency.{YebkuzanBusFrequency}
@@ -28,6 +30,9 @@ same-sizes a b e = ap (λ (o : Outcome SizeTable). record { number = o .number; 
 
 pub same-segments : (a b : YebkuzanSegments) → segmentsOutcomeC a ≡ segmentsOutcomeC b → a ≡ b
 same-segments a b e = ap (λ (o : Outcome SegmentTable). record { number = o .number; table = o .value }) e
+
+pub same-radix : (a b : YebkuzanRadixEncodings) → radixOutcomeC a ≡ radixOutcomeC b → a ≡ b
+same-radix a b e = ap (λ (o : Outcome RadixTable). record { number = o .number; table = o .value }) e
 
 pub same-pa : (a b : YebkuzanPaFeatures) → paOutcomeC a ≡ paOutcomeC b → a ≡ b
 same-pa a b e = ap (λ (o : Outcome PaTable). record { number = o .number; table = o .value }) e

@@ -6,12 +6,14 @@ use Rattle.positions.specs.declared.Position.{Position}
 use Rattle.positions.specs.declared.Position.the-variants.{Nowhere, At}
 use Rattle.sizes.specs.declared.SizeTable.{SizeTable}
 use Rattle.segments.specs.declared.SegmentTable.{SegmentTable}
+use Rattle.radix.specs.declared.RadixTable.{RadixTable}
 use Rattle.attributes.specs.declared.PaTable.{PaTable}
 use Rattle.attributes.specs.declared.PiTable.{PiTable}
 use Rattle.enabled.specs.Answers.{Members}
 use Rattle.words.specs.Words.{WordValues}
 use Rattle.answers.specs.declared.YebkuzanSizes.{YebkuzanSizes}
 use Rattle.answers.specs.declared.YebkuzanSegments.{YebkuzanSegments}
+use Rattle.answers.specs.declared.YebkuzanRadixEncodings.{YebkuzanRadixEncodings}
 use Rattle.answers.specs.declared.YebkuzanPaFeatures.{YebkuzanPaFeatures}
 use Rattle.answers.specs.declared.YebkuzanPiFeatures.{YebkuzanPiFeatures}
 use Rattle.answers.specs.declared.YebkuzanBusFrequency.{YebkuzanBusFrequency}
@@ -28,6 +30,9 @@ sizesOutcomeC t = record { number = t .number; value = t .table }
 
 abbrev pub segmentsOutcomeC : YebkuzanSegments → Outcome SegmentTable
 segmentsOutcomeC t = record { number = t .number; value = t .table }
+
+abbrev pub radixOutcomeC : YebkuzanRadixEncodings → Outcome RadixTable
+radixOutcomeC t = record { number = t .number; value = t .table }
 
 abbrev pub paOutcomeC : YebkuzanPaFeatures → Outcome PaTable
 paOutcomeC t = record { number = t .number; value = t .table }

@@ -9,6 +9,8 @@ use enabled::Enabled;
 use permitted::PermittedFeatures;
 use positions::Position;
 use positions::Set;
+use radix::RadixEncodings;
+use radix::RadixTable;
 use reach::ReachTable;
 use refusal::Refusal;
 use segments::SegmentPages;
@@ -21,6 +23,7 @@ use words::FeatureWords;
 ghost use mathlib.Core.Path.{_≡_};
 ghost use Rattle.sizes.specs.Sizes.{sizesOutcome};
 ghost use Rattle.segments.specs.Segments.{segmentsOutcome};
+ghost use Rattle.radix.specs.Radix.{radixOutcome};
 ghost use Rattle.attributes.specs.Attributes.{paOutcome, piOutcome, busOutcome};
 ghost use Rattle.unit.specs.Unit.{unitOutcome};
 ghost use Rattle.permitted.specs.Asked.{permittedOutcome};
@@ -28,7 +31,7 @@ ghost use Rattle.enabled.specs.Answers.{enabledOutcome};
 ghost use Rattle.reach.specs.Answers.{reachOutcome};
 ghost use Rattle.chain.specs.Chain.{chainOutcome};
 ghost use Rattle.words.specs.Words.{wordsOutcome};
-ghost use Rattle.answers.specs.Answers.{sizesOutcomeC, segmentsOutcomeC, paOutcomeC, piOutcomeC, busOutcomeC, unitOutcomeC, stringPlaceOutcomeC, placeOutcome, permittedOutcomeC, enabledOutcomeC, reachOutcomeC, writtenOutcomeC, wordsOutcomeC};
+ghost use Rattle.answers.specs.Answers.{sizesOutcomeC, segmentsOutcomeC, radixOutcomeC, paOutcomeC, piOutcomeC, busOutcomeC, unitOutcomeC, stringPlaceOutcomeC, placeOutcome, permittedOutcomeC, enabledOutcomeC, reachOutcomeC, writtenOutcomeC, wordsOutcomeC};
 
 // A number, or 0 with the sizes; zeros beside a number.
 #[repr(C)]
@@ -42,6 +45,13 @@ pub struct YebkuzanSizes {
 pub struct YebkuzanSegments {
     pub number: u32,
     pub table: SegmentTable,
+}
+
+// A number, or 0 with the radix encodings; zeros beside a number.
+#[repr(C)]
+pub struct YebkuzanRadixEncodings {
+    pub number: u32,
+    pub table: RadixTable,
 }
 
 // A number, or 0 with the attributes; zeros beside a number.
@@ -136,6 +146,17 @@ pub fn of_segments(pages: SegmentPages) -> YebkuzanSegments
     let refusal = pages.refusal;
     let table = pages.table;
     YebkuzanSegments {
+        number: refusal::number(refusal),
+        table,
+    }
+}
+
+pub fn of_radix_encodings(encodings: RadixEncodings) -> YebkuzanRadixEncodings
+    ensures { λ x. ⌜ radixOutcomeC x ≡ radixOutcome encodings ⌝ }
+{
+    let refusal = encodings.refusal;
+    let table = encodings.table;
+    YebkuzanRadixEncodings {
         number: refusal::number(refusal),
         table,
     }

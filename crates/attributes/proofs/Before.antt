@@ -1,5 +1,5 @@
 -- In edition 0, `ibm,pa-features` is answered as it was before A13, for every value, with zeros in the new parts. Assumes nothing.
-use mathlib.Core.Path.{_≡_, refl, sym, ap, _∙_}
+use mathlib.Core.Path.{_≡_, refl, sym, ap, subst, _∙_}
 use mathlib.Core.List.{List}
 use Prim.Native.Nat.{ℕ, _-_}
 use native.Mathlib.Omega.{arith}
@@ -11,6 +11,7 @@ use Rattle.refusal.specs.Checks.{firstFault}
 use Rattle.refusal.proofs.Checks.{holds-on, outcome-through}
 use Rattle.attributes.specs.Attributes.{mostBytes, firstLater, laterBytes, editionFirst, topBit, knownBytes, paTable, noAttributes, paChecks, paFeatures, attributeChecks, attributeBytes}
 use Rattle.attributes.specs.declared.PaTable.{PaTable}
+use Rattle.attributes.specs.Reserved.{NothingLater}
 use Rattle.attributes.proofs.Editions.{known-first, later-none}
 use Rattle.attributes.proofs.Reserved.{front-at, front-behind}
 
@@ -103,3 +104,9 @@ as-before value =
     ∙ sym
     (outcome-through withZeros zerosBefore (tableBefore bytes) noAttributes (paTable (knownBytes editionFirst bytes)) (attributeChecks value) refl
     (λ _. same-table bytes ∙ ap paTable (sym (known-first bytes refl))))
+
+-- so the new parts are zero
+pub nothing-later : (value : List ℕ) → NothingLater (paFeatures editionFirst value .value)
+nothing-later value =
+    subst (λ (o : Outcome PaTable). NothingLater (o .value)) (sym (as-before value))
+    (record { copyPaste = refl; radixTranslation = refl; secondWatchpoint = refl; rawLater = refl })

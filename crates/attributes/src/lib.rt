@@ -26,10 +26,12 @@ pub const MOST_BYTES: usize = 254;
 
 // The editions of `ibm,pa-features`. In the first, bytes from `FIRST_LATER` on are ignored.
 pub const EDITION_FIRST: u32 = 0;
+
 pub const EDITION_LATER: u32 = 1;
 
 // The first byte that the later edition adds, and how many it adds.
 pub const FIRST_LATER: usize = 24;
+
 pub const LATER_BYTES: usize = 230;
 
 // The attributes of `ibm,pa-features`; each flag is 0 or 1. Bytes 0 to 5 are raw, and those from `FIRST_LATER` on.

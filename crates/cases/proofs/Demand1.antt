@@ -9,9 +9,10 @@ use Rattle.refusal.specs.Checks.{check, firstFault}
 use Rattle.cells.specs.Buffer.{written}
 use Rattle.unit.specs.Hex.{HexNumber, someNumber, noNumber, hexNumber, hexChecks, readNumber, readHex, hexText, digitCount, fits, writeHex, afterHex}
 use Rattle.unit.specs.Unit.{readUnit, writeUnit, afterUnit}
-use Rattle.sizes.specs.Sizes.{sizeOnly, sizeOrNone, sizeChecks, noSizes, sizes}
+use Rattle.sizes.specs.Sizes.{sizeOnly, sizeOrNone, radixSize, sizeChecks, noSizes, sizes}
 use Rattle.segments.specs.Segments.{segmentChecks, tableOf, segmentPages}
-use Rattle.attributes.specs.Attributes.{attributeChecks, noAttributes, paFeatures, piTable, piFeatures, busFrequency}
+use Rattle.radix.specs.Radix.{noEncodings, radixEncodings}
+use Rattle.attributes.specs.Attributes.{attributeChecks, noAttributes, paChecks, paFeatures, piTable, piFeatures, busFrequency}
 use Rattle.header.specs.Header.{noBlocks, header}
 use Rattle.walk.specs.Checked.{noLayout}
 use Rattle.walk.specs.declared.Layout.{Layout}
@@ -41,7 +42,7 @@ use Rattle.listing.specs.Listing.{lineAt, lineChecks, writeLine, afterLine}
 use Rattle.cases.specs.Ends.{Ends, answered as whole, refused, PlacedEnds, answeredAt, refusedAt, Keeps}
 use Rattle.cases.specs.Demand1.{zeroSet, zeroSeen, zeroMembers, zeroSegments, zeroBytes, Demand1Tree, Demand1Resolver, Demand1Slots, Demand1List, Demand1Value, Demand1Unit, Demand1Line, Demand1}
 use Rattle.cases.proofs.EndLaws.{checks-end, checks-keep, fault-one-of}
-use Rattle.cases.proofs.TableNumbers.{sizeNumbers, sizes-numbered, segmentNumbers, segments-numbered, attributeNumbers, attributes-numbered}
+use Rattle.cases.proofs.TableNumbers.{sizeNumbers, sizes-numbered, segmentNumbers, segments-numbered, attributeNumbers, attributes-numbered, pa-numbered}
 use Rattle.cases.proofs.LookupEnds.{of-lookup}
 use Rattle.cases.proofs.BlockEnds.{of-block, of-feature}
 
@@ -119,13 +120,15 @@ of-slots slots counts n set i buffer =
 
 -- the value of a CPU node's property
 of-value : (value : List ℕ) → Demand1Value value
-unfolding sizes segmentPages tableOf paFeatures piFeatures piTable busFrequency
+unfolding sizes segmentPages tableOf radixEncodings paFeatures piFeatures piTable busFrequency
 of-value value = record {
   pagesEnds = checks-end sizeNumbers noSizes _ (sizeChecks sizeOnly value) (sizes-numbered sizeOnly value);
   sizesOfSegmentsEnds = checks-end sizeNumbers noSizes _ (sizeChecks sizeOrNone value) (sizes-numbered sizeOrNone value);
   segmentsEnds = checks-end segmentNumbers zeroSegments _ (segmentChecks value) (segments-numbered value);
-  paEnds = checks-end attributeNumbers noAttributes _ (attributeChecks value) (attributes-numbered value);
-  piEnds = checks-end attributeNumbers zeroBytes _ (attributeChecks value) (attributes-numbered value);
+  radixSizesEnd = checks-end sizeNumbers noSizes _ (sizeChecks radixSize value) (sizes-numbered radixSize value);
+  radixEnds = checks-end sizeNumbers noEncodings _ (sizeChecks radixSize value) (sizes-numbered radixSize value);
+  paEnds = λ edition. checks-end (attributeNumbers (15 ∷ [])) noAttributes _ (paChecks edition value) (pa-numbered edition value);
+  piEnds = checks-end (attributeNumbers []) zeroBytes _ (attributeChecks value) (attributes-numbered [] value);
   busEnds = checks-end _ 0 _ _ refl;
 }
 

@@ -1,23 +1,26 @@
 -- Demand 2, for all bytes and numbers. Assumes nothing.
-use Prim.Native.Nat.{ℕ}
-use mathlib.Core.Path.{_≡_, refl, ap}
-use mathlib.Core.List.{List, [], _∷_}
+use Prim.Native.Nat.{ℕ, _<_, _≤_}
+use mathlib.Core.Path.{_≡_, refl, ap, _∙_}
+use mathlib.Core.List.{List, [], _∷_, map}
 use native.Mathlib.Omega.{arith}
 use lib.Dec.{eqb, eqb→eq}
 use lib.ListN.{length}
 use Rattle.refusal.specs.Refusal.{Outcome, answer, refuse}
-use Rattle.refusal.specs.Checks.{check}
-use Rattle.refusal.proofs.Checks.{answered, passes, outcome-number, eq→eqb}
+use Rattle.refusal.specs.Checks.{check, faultOf}
+use Rattle.refusal.proofs.Checks.{answered, passes, stops, next-decides, outcome-number, eq→eqb, tests}
 use Rattle.cells.specs.Cells.{wordAt, cellsIn}
 use Rattle.unit.proofs.Demand2.{number-text-number, eight-bytes, text-number-text, one-shortest}
 use Rattle.sizes.specs.declared.Size.{Size}
-use Rattle.sizes.specs.Sizes.{sizeOnly, sizeOrNone, noSizes, sizeChecks, sizeTable, sizes}
+use Rattle.sizes.specs.Sizes.{sizeOnly, sizeOrNone, radixSize, noSizes, sizeChecks, sizeTable, sizes}
 use Rattle.sizes.proofs.Accepted.{sizes-accepts, sizes-read, sizes-once, sizes-plain, without-gaps, places-read}
 use Rattle.segments.proofs.Accepted.{segments-accepts, segments-read, segments-once}
-use Rattle.attributes.specs.declared.PaTable.{PaTable}
-use Rattle.attributes.specs.declared.PiTable.{PiTable}
-use Rattle.attributes.specs.Attributes.{attributeChecks, attributeBytes, paTable, noAttributes, paFeatures, piTable, piFeatures, busFrequency}
-use Rattle.attributes.proofs.Reserved.{reserved-ignored}
+use Rattle.radix.specs.Radix.{encodingOf, radixTable, noEncodings, radixEncodings}
+use Rattle.radix.proofs.Accepted.{radix-accepts, radix-read, radix-once}
+use Rattle.attributes.specs.Attributes.{attributeChecks, attributeBytes, paTable, editionLater, knownBytes, paChecks, noAttributes, paFeatures, piTable, piFeatures, busFrequency}
+use Rattle.attributes.proofs.Editions.{known-later}
+use Rattle.attributes.proofs.Described.{described-once}
+use Rattle.attributes.proofs.Accepted.{pa-read, pa-accepts, pa-reserved, pi-read, pi-accepts}
+use Rattle.attributes.proofs.Before.{nothing-later}
 use Rattle.walk.proofs.CheckEnds.{checks-trees}
 use Rattle.walk.proofs.TotalSize.{changed-behind, more-behind}
 use Rattle.lookup.proofs.LooksUp.{looks-up}
@@ -29,10 +32,8 @@ use Rattle.reading.proofs.Dependencies.{read-holds, read-zeroed, read-dependenc
 use Rattle.reading.proofs.Capability.{read-capability}
 use Rattle.reading.proofs.TotalSize.{same-tree-read}
 use Rattle.listing.proofs.TotalSize.{same-tree-listing, first-listing}
-use Rattle.cases.specs.Demand2.{Demand2Tree, Demand2Lookup, Demand2Sizes, Demand2Value, Demand2Unit, Demand2}
+use Rattle.cases.specs.Demand2.{Demand2Tree, Demand2Lookup, Demand2Sizes, Demand2Attributes, Demand2Value, Demand2Unit, Demand2}
 use Rattle.cases.proofs.StringLists.{of-list}
-use Rattle.cases.proofs.EndLaws.{checks-answer}
-use Rattle.cases.proofs.TableNumbers.{attributeNumbers, attributes-numbered}
 
 of-tree : (tree : List ℕ) → Demand2Tree readRecord tree
 of-tree tree = record {
@@ -64,17 +65,31 @@ module _ (value : List ℕ) where
     numbered = outcome-number noSizes (sizeTable (cellsIn value)) (sizeChecks rule value);
   }
 
-  pa-read : paFeatures value .number ≡ 0 → paFeatures value .value ≡ paTable (attributeBytes value)
-  unfolding paFeatures
-  pa-read z =
-      ap (λ (o : Outcome PaTable). o .value)
-      (checks-answer attributeNumbers noAttributes (paTable (attributeBytes value)) refl (attributeChecks value) (attributes-numbered value) z)
+  pa-unknown : (edition : ℕ) → editionLater < edition → paFeatures edition value ≡ refuse noAttributes 15
+  unfolding paFeatures paChecks
+  pa-unknown edition h = stops (refuse noAttributes) 0 0 (paChecks edition value) _ (omega (arith, tests))
 
-  pi-read : piFeatures value .number ≡ 0 → piFeatures value .value ≡ piTable (attributeBytes value)
+  pa-number : (edition : ℕ) → edition ≤ editionLater → paFeatures edition value .number ≡ faultOf (attributeChecks value)
+  unfolding paFeatures paChecks
+  pa-number edition h =
+      outcome-number noAttributes (paTable (knownBytes edition (attributeBytes value))) (paChecks edition value)
+      ∙ next-decides _ (attributeChecks value) (omega (arith, tests))
+
+  of-attributes : Demand2Attributes value
   unfolding piFeatures
-  pi-read z =
-      ap (λ (o : Outcome PiTable). o .value)
-      (checks-answer attributeNumbers (piTable []) (piTable (attributeBytes value)) refl (attributeChecks value) (attributes-numbered value) z)
+  of-attributes = record {
+    describedOnce = described-once value;
+    paUnknown = pa-unknown;
+    paAccepted = λ edition. pa-accepts edition value;
+    paRead = λ edition. pa-read edition value;
+    paNumber = pa-number;
+    paFirst = nothing-later value;
+    paLater = λ ds used g. pa-read editionLater value (omega arith) ds used g ∙ ap (λ (bytes : List ℕ). answer (paTable bytes)) (known-later used (λ e. omega arith));
+    reserved = λ edition h. pa-reserved edition h value;
+    piAccepted = pi-accepts value;
+    piRead = pi-read value;
+    piNumber = outcome-number (piTable []) (piTable (attributeBytes value)) (attributeChecks value);
+  }
 
   bus-read : length value ≡ 8 → busFrequency value ≡ answer (wordAt value 0)
   unfolding busFrequency
@@ -85,7 +100,7 @@ module _ (value : List ℕ) where
   bus-length z = eqb→eq (length value) 8 (answered 0 (wordAt value 0) (check (eqb (length value) 8) 11 ∷ []) (omega arith, tt) z .0)
 
   of-value : Demand2Value value
-  unfolding paFeatures piFeatures
+  unfolding radixEncodings
   of-value = record {
     pages = of-sizes sizeOnly;
     pagesPlain = sizes-plain sizeOnly value refl;
@@ -95,11 +110,11 @@ module _ (value : List ℕ) where
     segmentsAccepted = segments-accepts value;
     segmentsRead = λ segments. segments-read segments value;
     segmentsOnce = λ a b. segments-once a b value;
-    paNumber = outcome-number noAttributes (paTable (attributeBytes value)) (attributeChecks value);
-    piNumber = outcome-number (piTable []) (piTable (attributeBytes value)) (attributeChecks value);
-    paRead = pa-read;
-    piRead = pi-read;
-    reserved = reserved-ignored value;
+    radixAccepted = radix-accepts value;
+    radixRead = radix-read value;
+    radixOnce = radix-once value;
+    radixNumber = outcome-number noEncodings (radixTable (map encodingOf (cellsIn value))) (sizeChecks radixSize value);
+    attributes = of-attributes;
     busAccepted = (bus-length, λ e. ap (λ (o : Outcome ℕ). o .number) (bus-read e));
     busRead = bus-read;
   }

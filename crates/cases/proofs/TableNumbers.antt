@@ -54,21 +54,27 @@ pub segments-numbered : (value : List ℕ) → allOneOf segmentNumbers (segments
 unfolding segments.segmentChecks
 segments-numbered value = descriptors-numbered (suc segments.mostDescriptors) value 0 0
 
--- attribute bytes
-abbrev pub attributeNumbers : List ℕ
-attributeNumbers = 9 ∷ 10 ∷ 11 ∷ 12 ∷ []
+-- attribute bytes, beside other numbers
+module _ (more : List ℕ) where
+  abbrev pub attributeNumbers : List ℕ
+  attributeNumbers = 9 ∷ 10 ∷ 11 ∷ 12 ∷ more
 
-bytes-numbered : (most : ℕ) (value : List ℕ) (at : ℕ) → allOneOf attributeNumbers (attributes.checksFrom most value at) ≡ true
-unfolding attributes.checksFrom attributes.descriptorChecks
-bytes-numbered zero value at = refl
-bytes-numbered (suc most) value at =
-    where-one-of attributeNumbers (ltb at (length value))
-    (attributes.descriptorChecks value at ++ attributes.checksFrom most value (attributes.nextAt value at))
-    (bytes-numbered most value (attributes.nextAt value at))
+  bytes-numbered : (most : ℕ) (value : List ℕ) (at : ℕ) → allOneOf attributeNumbers (attributes.checksFrom most value at) ≡ true
+  unfolding attributes.checksFrom attributes.descriptorChecks
+  bytes-numbered zero value at = refl
+  bytes-numbered (suc most) value at =
+      where-one-of attributeNumbers (ltb at (length value))
+      (attributes.descriptorChecks value at ++ attributes.checksFrom most value (attributes.nextAt value at))
+      (bytes-numbered most value (attributes.nextAt value at))
 
-pub attributes-numbered : (value : List ℕ) → allOneOf attributeNumbers (attributes.attributeChecks value) ≡ true
-unfolding attributes.attributeChecks attributes.typeChecks
-attributes-numbered value =
-    both-one-of attributeNumbers (attributes.checksFrom (length value) value 0) (attributes.typeChecks value)
-    (bytes-numbered (length value) value 0)
-    refl
+  pub attributes-numbered : (value : List ℕ) → allOneOf attributeNumbers (attributes.attributeChecks value) ≡ true
+  unfolding attributes.attributeChecks attributes.typeChecks
+  attributes-numbered value =
+      both-one-of attributeNumbers (attributes.checksFrom (length value) value 0) (attributes.typeChecks value)
+      (bytes-numbered (length value) value 0)
+      refl
+
+-- with an edition
+pub pa-numbered : (edition : ℕ) (value : List ℕ) → allOneOf (attributeNumbers (15 ∷ [])) (attributes.paChecks edition value) ≡ true
+unfolding attributes.paChecks
+pa-numbered edition value = attributes-numbered (15 ∷ []) value

@@ -13,9 +13,10 @@ use Rattle.tokens.specs.Tokens.{tokens}
 use Rattle.properties.specs.Properties.{nameAt, givenBefore, nameFault, readProperties}
 use Rattle.unit.specs.Hex.{readHex, writeHex, afterHex}
 use Rattle.unit.specs.Unit.{readUnit, writeUnit, afterUnit}
-use Rattle.sizes.specs.Sizes.{noSizes, pageSizes, segmentSizes}
+use Rattle.sizes.specs.Sizes.{noSizes, pageSizes, segmentSizes, radixSizes}
 use Rattle.segments.specs.declared.SegmentTable.{SegmentTable}
 use Rattle.segments.specs.Segments.{mostDescriptors, noDescriptor, segmentPages}
+use Rattle.radix.specs.Radix.{noEncodings, radixEncodings}
 use Rattle.attributes.specs.declared.PiTable.{PiTable}
 use Rattle.attributes.specs.Attributes.{mostBytes, noAttributes, paFeatures, piFeatures, busFrequency}
 use Rattle.header.specs.Header.{noBlocks, header}
@@ -157,15 +158,20 @@ pub record Demand1Lookup (cpu parent strings name : List ℕ) : Type 0 where
 pub record Demand1List (list text : List ℕ) : Type 0 where
   pub placeEnds : Ends (10 ∷ []) 0 (placeOutcome (stringPlace list text))
 
--- `page_sizes` and `segment_sizes`, `segment_page_sizes`, `pa_features`, `pi_features` and `bus_frequency`, of a value
+-- `page_sizes` and `segment_sizes`, `segment_page_sizes`, `radix_sizes` and `radix_encodings`, `pa_features`, `pi_features` and
+-- `bus_frequency`, of a value
 pub record Demand1Value (value : List ℕ) : Type 0 where
   -- "length first (11), maxima (8), then cell by cell, 12 before 19"; of segment sizes "gaps only is 11, after all cell checks"
   pub pagesEnds : Ends (8 ∷ 11 ∷ 12 ∷ 19 ∷ []) noSizes (pageSizes value)
   pub sizesOfSegmentsEnds : Ends (8 ∷ 11 ∷ 12 ∷ 19 ∷ []) noSizes (segmentSizes value)
   -- "a ninth of sizes is 8, a header cut short 11, a count of 0 .. is 12"
   pub segmentsEnds : Ends (8 ∷ 11 ∷ 12 ∷ []) zeroSegments (segmentPages value)
-  -- "One of type 0 is used, none is 10, two are 9"; "a header cut short 11, .. a length byte of 0 or 255 is 12"
-  pub paEnds : Ends (9 ∷ 10 ∷ 11 ∷ 12 ∷ []) noAttributes (paFeatures value)
+  -- (A13) "11, 8, 12, 19 as for page sizes"
+  pub radixSizesEnd : Ends (8 ∷ 11 ∷ 12 ∷ 19 ∷ []) noSizes (radixSizes value)
+  pub radixEnds : Ends (8 ∷ 11 ∷ 12 ∷ 19 ∷ []) noEncodings (radixEncodings value)
+  -- "One of type 0 is used, none is 10, two are 9"; "a header cut short 11, .. a length byte of 0 or 255 is 12"; (A13) "15 also for an
+  -- unknown edition"
+  pub paEnds : (edition : ℕ) → Ends (9 ∷ 10 ∷ 11 ∷ 12 ∷ 15 ∷ []) noAttributes (paFeatures edition value)
   pub piEnds : Ends (9 ∷ 10 ∷ 11 ∷ 12 ∷ []) zeroBytes (piFeatures value)
   -- "length first (11)"
   pub busEnds : Ends (11 ∷ []) 0 (busFrequency value)

@@ -4,8 +4,10 @@ use crate::line::put_cells;
 use crate::line::put_none;
 use crate::line::put_number;
 use crate::line::put_start;
+use radix::RadixTable;
 use segments::Descriptor;
 use segments::SegmentTable;
+use sizes::MOST_SIZES;
 use sizes::Size;
 
 const DESCRIPTORS: usize = 8;
@@ -104,8 +106,33 @@ pub(crate) fn segment_page_sizes(value: &[u8]) -> bool {
     true
 }
 
-pub(crate) fn pa_features(value: &[u8]) -> bool {
-    let read = attributes::pa_features(value);
+fn put_encodings(table: RadixTable) {
+    let mut i: usize = 0;
+    while i < MOST_SIZES {
+        let encoding = table.encodings[i];
+        put_number(encoding.ap as u64);
+        put_number(encoding.exponent as u64);
+        i += 1;
+    }
+}
+
+pub(crate) fn radix_encodings(value: &[u8]) -> bool {
+    let read = radix::radix_encodings(value);
+    let refusal = read.refusal;
+    let table = read.table;
+    put_start(b'x', refusal);
+    put_number(table.count as u64);
+    put_encodings(table);
+    true
+}
+
+// The first four bytes are the edition, and the others the value; fewer than four are no vector.
+pub(crate) fn pa_features(bytes: &[u8]) -> bool {
+    if bytes.len() < 4 {
+        return false;
+    }
+    let edition = cells::cell_at(bytes, 0);
+    let read = attributes::pa_features(&bytes[4..], edition);
     let refusal = read.refusal;
     let table = read.table;
     put_start(b'a', refusal);
@@ -115,7 +142,11 @@ pub(crate) fn pa_features(value: &[u8]) -> bool {
     put_number(table.vector_scalar as u64);
     put_number(table.vector_crypto as u64);
     put_number(table.transactional_memory as u64);
+    put_number(table.copy_paste as u64);
+    put_number(table.radix_translation as u64);
+    put_number(table.second_watchpoint as u64);
     put_number(table.coprocessor);
+    put_bytes(&table.raw_later);
     true
 }
 

@@ -42,6 +42,7 @@ fn read_answer(kind: u8, value: &[u8]) -> bool {
         b'p' => cpu::page_sizes(value),
         b's' => cpu::segment_sizes(value),
         b'g' => cpu::segment_page_sizes(value),
+        b'x' => cpu::radix_encodings(value),
         b'a' => cpu::pa_features(value),
         b'i' => cpu::pi_features(value),
         b'f' => cpu::bus_frequency(value),
