@@ -487,7 +487,7 @@ def radix_edges():
     for pairs in (
         [(0, 12), (1, 64)],
         [(place % 8, place) for place in range(15)] + [(7, 64)],
-        # Before one that does not ascend; in one cell 12 comes before 19.
+        # Before one that does not ascend.
         [(0, 64), (1, 64)],
         [(1, 64), (0, 5)],
         [(0, 5), (1, 64), (2, 3)],
