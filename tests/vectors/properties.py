@@ -8,9 +8,12 @@
 | s    | segment sizes                                                        | count, 16 exponents, `none` for one that is no size |
 | g    | segment page sizes                                                   | count, then 8 times base, encoding, count and 8 pairs of exponent and encoding |
 | x    | radix encodings                                                      | count, 16 pairs of AP and exponent |
-| a    | an edition (four bytes, big-endian), then `ibm,pa-features`          | 6 raw bytes, data streams, vector, vector scalar, vector crypto, transactional memory, copy and paste, radix translation, second watchpoint, coprocessor word, 230 later bytes |
+| a    | an edition (four bytes, big-endian), then `ibm,pa-features`          | 6 raw bytes, eight attributes, coprocessor word, 230 later bytes |
 | i    | `ibm,pi-features`                                                    | count, 254 bytes |
 | f    | `ibm,extended-bus-frequency`                                         | the frequency |
+
+The eight attributes are data streams, vector, vector scalar, vector crypto and transactional memory, and those of the
+later edition: copy and paste, radix translation, second watchpoint.
 
 The lines come from the model (tests/model/properties.py). Wherever documents 01 and 02 fix what is to come, it is
 written down here by hand as well, and a model that says something else is an error: each group yields (kind,
