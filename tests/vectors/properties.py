@@ -37,7 +37,7 @@ ANSWERS = {
     "p": model.page_sizes,
     "s": model.segment_sizes,
     "g": model.segment_page_sizes,
-    "x": model.radix_encodings,
+    "x": lambda data: model.radix_encodings(data),
     "a": lambda data: model.pa_features(data[4:], int.from_bytes(data[:4], "big")),
     "i": model.pi_features,
     "f": model.bus_frequency,
