@@ -63,6 +63,7 @@ BUILT = {
     "power9": accepted_line([0x4CC]),
     "power9-features": accepted_line([0x4C]),
     "power9-reduced": accepted_line([0x624]),
+    "power9-whole": accepted_line([0x710]),
     "property-name-32": accepted_line([]),
     "property-name-63": accepted_line([]),
     "property-name-64": refused_line(7, 0x6C),
