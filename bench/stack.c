@@ -15,6 +15,8 @@ static YebkuzanRows rows;
 static const YebkuzanGrants all_bits = { { { 0 } }, { { 0 } }, ~UINT64_C(0), ~UINT64_C(0) };
 static uint8_t out[YEBKUZAN_MOST_FEATURES];
 static const uint8_t cells[64];
+static const uint8_t encodings[] = { 0, 0, 0, 12, 0xa0, 0, 0, 16, 0x20, 0, 0, 21, 0x40, 0, 0, 30 };
+static const uint8_t attributes[2 + YEBKUZAN_MOST_BYTES] = { YEBKUZAN_MOST_BYTES };
 static const uint8_t names[] = "ibm,power9-cpu-features\0ibm,powerpc-cpu-features";
 
 /* Each call keeps its arguments and its answer in its own frame, as a caller's does. */
@@ -33,7 +35,8 @@ static void *find_property(void *unused) { kept = yebkuzan_find_property(cells, 
 static void *reason(void *unused) { kept = yebkuzan_lookup_reason(cells, 64, cells, 64, cells, 64, cells, 4); return unused; }
 static void *page_sizes(void *unused) { kept = yebkuzan_page_sizes(cells, 64).number; return unused; }
 static void *segment_pages(void *unused) { kept = yebkuzan_segment_page_sizes(cells, 64).number; return unused; }
-static void *pa_features(void *unused) { kept = yebkuzan_pa_features(cells, 64).number; return unused; }
+static void *radix(void *unused) { kept = yebkuzan_radix_encodings(encodings, sizeof encodings).number; return unused; }
+static void *pa_features(void *unused) { kept = yebkuzan_pa_features(attributes, sizeof attributes, 1).number; return unused; }
 static void *pi_features(void *unused) { kept = yebkuzan_pi_features(cells, 64).number; return unused; }
 static void *bus_frequency(void *unused) { kept = yebkuzan_bus_frequency(cells, 8).number; return unused; }
 static void *string_place(void *unused) { kept = yebkuzan_string_place(names, sizeof names, names + 24, 24).number; return unused; }
@@ -95,9 +98,9 @@ int main(int argc, char **argv)
         void *(*call)(void *);
     } calls[] = { { "well_formed", well_formed }, { "permitted", permitted }, { "enable", enable }, { "reach_table", reach_table },
         { "enable_by_table", by_table }, { "chain", chain }, { "words", words }, { "find_property", find_property },
-        { "lookup_reason", reason }, { "page_sizes", page_sizes }, { "segment_page_sizes", segment_pages }, { "pa_features", pa_features },
-        { "pi_features", pi_features }, { "bus_frequency", bus_frequency }, { "string_place", string_place }, { "read_unit", read_unit },
-        { "write_unit", write_unit } };
+        { "lookup_reason", reason }, { "page_sizes", page_sizes }, { "segment_page_sizes", segment_pages }, { "radix_encodings", radix },
+        { "pa_features", pa_features }, { "pi_features", pi_features }, { "bus_frequency", bus_frequency },
+        { "string_place", string_place }, { "read_unit", read_unit }, { "write_unit", write_unit } };
     size_t none, most = 0;
 
     if (argc < 2)

@@ -47,7 +47,7 @@ extern "C" {
 #define YEBKUZAN_REFUSAL_OUT_OF_RANGE 12u   /* a number outside its range */
 #define YEBKUZAN_REFUSAL_UNKNOWN_PHANDLE 13u /* a dependency on a phandle that no feature carries */
 #define YEBKUZAN_REFUSAL_RECORD_FORM 14u    /* a feature record that is not well formed */
-#define YEBKUZAN_REFUSAL_LEVEL 15u          /* a level other than the three below */
+#define YEBKUZAN_REFUSAL_LEVEL 15u          /* a level other than the three below, or an edition other than the two */
 #define YEBKUZAN_REFUSAL_POSITION 16u       /* a position not below the count of features */
 #define YEBKUZAN_REFUSAL_FEATURE_ENABLED 17u /* a chain asked of an enabled feature */
 #define YEBKUZAN_REFUSAL_BUFFER_LENGTH 18u  /* the buffer is shorter than what is to be written */
@@ -60,7 +60,7 @@ extern "C" {
 #define YEBKUZAN_LARGEST_TREE 65536u    /* the largest total size of a tree */
 #define YEBKUZAN_MOST_LEVELS 16u        /* levels of nodes; the root is level 1 */
 #define YEBKUZAN_MOST_NODE_NAME 63u     /* characters of a node's name */
-#define YEBKUZAN_MOST_PROPERTY_NAME 31u /* characters of a property's name */
+#define YEBKUZAN_MOST_PROPERTY_NAME 63u /* characters of a property's name */
 #define YEBKUZAN_MOST_FEATURES 64u      /* features of a record; positions are below it */
 #define YEBKUZAN_MOST_DEPENDENCIES 16u  /* dependencies of a feature */
 #define YEBKUZAN_SLOTS 1024u            /* dependency slots of a record: 16 to a feature */
@@ -69,12 +69,13 @@ extern "C" {
 #define YEBKUZAN_HIGHEST_HWCAP_BIT 63u  /* the highest hwcap-bit-nr of a feature */
 #define YEBKUZAN_WORDS 1u               /* words of a set of positions */
 #define YEBKUZAN_TABLE_WORDS 64u        /* words of the rows of a reach table */
-#define YEBKUZAN_MOST_SIZES 16u         /* page or segment sizes of a table */
+#define YEBKUZAN_MOST_SIZES 16u         /* page or segment sizes, or radix encodings, of a table */
 #define YEBKUZAN_LARGEST_EXPONENT 63u   /* exponent of a size */
 #define YEBKUZAN_NO_SIZE 4294967295u    /* in the place of an exponent of segment sizes: no size here */
 #define YEBKUZAN_MOST_DESCRIPTORS 8u    /* segment descriptors of a table */
 #define YEBKUZAN_MOST_PAGES 8u          /* pages of a segment descriptor */
 #define YEBKUZAN_MOST_BYTES 254u        /* bytes of an attribute descriptor */
+#define YEBKUZAN_LATER_BYTES 230u       /* bytes 24 to 253 of an attribute descriptor */
 #define YEBKUZAN_MOST_DIGITS 16u        /* characters of a unit text that is read */
 #define YEBKUZAN_LARGEST_UNIT 4294967295u /* the largest unit number */
 #define YEBKUZAN_UNIT_TEXT_BYTES 8u     /* a buffer of so many bytes is long enough for every unit text that is written */
@@ -84,6 +85,11 @@ extern "C" {
 #define YEBKUZAN_LEVEL_USER 0u
 #define YEBKUZAN_LEVEL_SYSTEM 1u
 #define YEBKUZAN_LEVEL_HYPERVISOR 2u
+
+/* Editions of ibm,pa-features */
+
+#define YEBKUZAN_EDITION_FIRST 0u /* bytes 0 to 23 have a meaning; those from 24 are ignored */
+#define YEBKUZAN_EDITION_LATER 1u /* bytes 24 to 253 too */
 
 /*
  * The bits of a feature's `given`: which of its properties the tree has. Absent and zero differ. In a record that does not come from
@@ -185,7 +191,23 @@ typedef struct YebkuzanSegmentTable {
     YebkuzanDescriptor descriptors[YEBKUZAN_MOST_DESCRIPTORS];
 } YebkuzanSegmentTable;
 
-/* The attributes of ibm,pa-features: bytes 0 to 5 raw, five flags, each 0 or 1, and the coprocessor word, byte 8 highest. */
+/* How the page size of an exponent is encoded in radix translation. */
+typedef struct YebkuzanRadixEncoding {
+    uint32_t ap; /* 0 to 7 */
+    uint32_t exponent;
+} YebkuzanRadixEncoding;
+
+/* `count` encodings, by ascending exponents. Places past the count are zero. */
+typedef struct YebkuzanRadixTable {
+    uint32_t count;
+    YebkuzanRadixEncoding encodings[YEBKUZAN_MOST_SIZES];
+} YebkuzanRadixTable;
+
+/*
+ * The attributes of ibm,pa-features: bytes 0 to 5 raw, eight flags, each 0 or 1, the coprocessor word, byte 8 highest, and the bytes from
+ * 24 raw: raw_later[k] is byte 24 + k. Bytes that are not supplied are zero. In the first edition copy_paste, radix_translation,
+ * second_watchpoint and raw_later are zero, whatever is supplied.
+ */
 typedef struct YebkuzanPaTable {
     uint8_t raw[6];
     uint8_t data_streams;
@@ -193,7 +215,11 @@ typedef struct YebkuzanPaTable {
     uint8_t vector_scalar;
     uint8_t vector_crypto;
     uint8_t transactional_memory;
+    uint8_t copy_paste;
+    uint8_t radix_translation;
+    uint8_t second_watchpoint;
     uint64_t coprocessor;
+    uint8_t raw_later[YEBKUZAN_LATER_BYTES];
 } YebkuzanPaTable;
 
 /* The bytes of ibm,pi-features: `count` of them, and zeros. */
@@ -255,6 +281,11 @@ typedef struct YebkuzanSegments {
     uint32_t number;
     YebkuzanSegmentTable table;
 } YebkuzanSegments;
+
+typedef struct YebkuzanRadixEncodings {
+    uint32_t number;
+    YebkuzanRadixTable table;
+} YebkuzanRadixEncodings;
 
 typedef struct YebkuzanPaFeatures {
     uint32_t number;
@@ -386,12 +417,20 @@ YebkuzanSizes yebkuzan_segment_sizes(const uint8_t *value, size_t value_length);
 YebkuzanSegments yebkuzan_segment_page_sizes(const uint8_t *value, size_t value_length);
 
 /*
- * ibm,pa-features: the one descriptor of type 0. 11 for no bytes; then descriptor by descriptor: 11 for a header cut short, 12 for a
- * length of 0 or 255, 11 for bytes cut short; last 10 for none of type 0, 9 for several.
+ * ibm,processor-radix-AP-encodings: a cell's top three bits are the AP, the other 29 the exponent. 11 for no bytes or no whole cells, 8
+ * for more than 16 cells; then cell by cell 12 for an exponent above 63, 19 where the exponents do not ascend. The AP may be any, also
+ * one given before; a cell of all ones is 12.
  */
-YebkuzanPaFeatures yebkuzan_pa_features(const uint8_t *value, size_t value_length);
+YebkuzanRadixEncodings yebkuzan_radix_encodings(const uint8_t *value, size_t value_length);
 
-/* ibm,pi-features. The same. */
+/*
+ * ibm,pa-features: the one descriptor of type 0, as an edition has it. 15 for an edition other than the two, before all else; 11 for no
+ * bytes; then descriptor by descriptor: 11 for a header cut short, 12 for a length of 0 or 255, 11 for bytes cut short; last 10 for none
+ * of type 0, 9 for several.
+ */
+YebkuzanPaFeatures yebkuzan_pa_features(const uint8_t *value, size_t value_length, uint32_t edition);
+
+/* ibm,pi-features: the one descriptor of type 0; there are no editions. 11, 12, 10, 9 as there. */
 YebkuzanPiFeatures yebkuzan_pi_features(const uint8_t *value, size_t value_length);
 
 /* ibm,extended-bus-frequency: two cells, high first. 11 for any length but 8. */

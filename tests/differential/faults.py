@@ -1,7 +1,14 @@
 """Faults that are seeded into the model, to show that the differential test finds them."""
 
-from model import record, resolver, strings
-from vectors.wrong_models import absent_is_zero, compatible_first_only, counted_from_1, second_smallest
+from model import properties, record, resolver, strings
+from vectors.wrong_models import (
+    absent_is_zero,
+    cells_ascend,
+    compatible_first_only,
+    counted_from_1,
+    later_bits_in_first_edition,
+    second_smallest,
+)
 
 SUPPORT_BITS = 2 ** resolver.GIVEN_BITS["hv_support"] | 2 ** resolver.GIVEN_BITS["os_support"]
 
@@ -27,6 +34,8 @@ FAULTS = {
     "second-smallest-chain": ((resolver, "first_of", second_smallest),),
     "place-from-1": ((strings, "place", counted_from_1),),
     "compatible-first-only": ((record, "is_compatible", compatible_first_only),),
+    "radix-cells-ascend": ((properties, "radix_encodings", cells_ascend),),
+    "later-bits-in-first-edition": ((properties, "pa_features", later_bits_in_first_edition),),
 }
 
 

@@ -41,7 +41,8 @@ PLAN = (
     ("p", 2000, 1000),
     ("s", 2000, 1000),
     ("g", 3000, 1000),
-    ("a", 3000, 1000),
+    ("x", 3000, 1000),
+    ("a", 4000, 1000),
     ("i", 3000, 1000),
     ("f", 1000, 1000),
     ("m", 6000, 1000),
@@ -113,9 +114,18 @@ def lookup_case(cpu, parent, strings, name):
     return lent + struct.pack("<2I2QI", number, which, offset, length, number)
 
 
+def told_case(value, answer):
+    """A value's bytes, and the number and the values that are expected."""
+    number, told = answer
+    return run(value) + struct.pack("<2I%dQ" % len(told), number, len(told), *told)
+
+
 def bytes_case(kind, data):
-    number, told = ANSWERS[kind](data)
-    return run(data) + struct.pack("<2I%dQ" % len(told), number, len(told), *told)
+    return told_case(data, ANSWERS[kind](data))
+
+
+def attributes_case(value, edition):
+    return struct.pack("<I", edition) + told_case(value, properties.pa_features(value, edition))
 
 
 def string_case(data, text):
@@ -157,7 +167,8 @@ BY_CHANCE = {
     "p": lambda *asked: (bytes_case("p", value) for value in values.sizes("p", *asked)),
     "s": lambda *asked: (bytes_case("s", value) for value in values.sizes("s", *asked)),
     "g": lambda *asked: (bytes_case("g", value) for value in values.segments(*asked)),
-    "a": lambda *asked: (bytes_case("a", value) for value in values.attributes("a", *asked)),
+    "x": lambda *asked: (bytes_case("x", value) for value in values.radix(*asked)),
+    "a": lambda *asked: (attributes_case(*case) for case in values.editions(*asked)),
     "i": lambda *asked: (bytes_case("i", value) for value in values.attributes("i", *asked)),
     "f": lambda *asked: (bytes_case("f", value) for value in values.frequencies(*asked)),
     "m": lambda *asked: (string_case(*case) for case in values.string_lists(*asked)),
@@ -196,6 +207,8 @@ def stored_case(kind, data):
         return "l", lookup_case(*[vector.bytes(length) for length in lengths], vector.left)
     if kind == "m":
         return "m", string_case(*list_and_text(data))
+    if kind == "a":
+        return "a", attributes_case(data[4:], int.from_bytes(data[:4], "big"))
     if kind == "w":
         return "w", unit_case(int.from_bytes(data[:4], "big"), data[4:])
     return kind, bytes_case(kind, data)

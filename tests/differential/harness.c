@@ -34,7 +34,8 @@ _Static_assert(sizeof(YebkuzanRows) == 512, "a table has no padding");
 
 enum {
     READ, WELL_FORMED, PERMITTED, ENABLE, REACH_TABLE, ENABLE_BY_TABLE, WORDS, CHAIN, FIND_PROPERTY, LOOKUP_REASON, PAGE_SIZES,
-    SEGMENT_SIZES, SEGMENT_PAGE_SIZES, PA_FEATURES, PI_FEATURES, BUS_FREQUENCY, STRING_PLACE, READ_UNIT, WRITE_UNIT, FUNCTIONS
+    SEGMENT_SIZES, SEGMENT_PAGE_SIZES, RADIX_ENCODINGS, PA_FEATURES, PI_FEATURES, BUS_FREQUENCY, STRING_PLACE, READ_UNIT, WRITE_UNIT,
+    FUNCTIONS
 };
 
 static const struct {
@@ -54,7 +55,8 @@ static const struct {
     { "page_sizes", 1 | 1 << 8 | 1 << 11 | 1 << 12 | 1 << 19 },
     { "segment_sizes", 1 | 1 << 8 | 1 << 11 | 1 << 12 | 1 << 19 },
     { "segment_page_sizes", 1 | 1 << 8 | 1 << 11 | 1 << 12 },
-    { "pa_features", 1 | 1 << 9 | 1 << 10 | 1 << 11 | 1 << 12 },
+    { "radix_encodings", 1 | 1 << 8 | 1 << 11 | 1 << 12 | 1 << 19 },
+    { "pa_features", 1 | 1 << 9 | 1 << 10 | 1 << 11 | 1 << 12 | 1 << 15 },
     { "pi_features", 1 | 1 << 9 | 1 << 10 | 1 << 11 | 1 << 12 },
     { "bus_frequency", 1 | 1 << 11 },
     { "string_place", 1 | 1 << 10 },
@@ -389,9 +391,24 @@ static uint32_t segment_page_sizes(const uint8_t *bytes, size_t length)
     return answer.number;
 }
 
+static uint32_t radix_encodings(const uint8_t *bytes, size_t length)
+{
+    YebkuzanRadixEncodings answer = yebkuzan_radix_encodings(bytes, length);
+    size_t i;
+
+    value(answer.table.count);
+    for (i = 0; i < YEBKUZAN_MOST_SIZES; i++) {
+        value(answer.table.encodings[i].ap);
+        value(answer.table.encodings[i].exponent);
+    }
+    return answer.number;
+}
+
+static uint32_t edition; /* stands before the bytes in a case of this function */
+
 static uint32_t pa_features(const uint8_t *bytes, size_t length)
 {
-    YebkuzanPaFeatures answer = yebkuzan_pa_features(bytes, length);
+    YebkuzanPaFeatures answer = yebkuzan_pa_features(bytes, length, edition);
     size_t i;
 
     for (i = 0; i < sizeof answer.table.raw; i++)
@@ -401,7 +418,12 @@ static uint32_t pa_features(const uint8_t *bytes, size_t length)
     value(answer.table.vector_scalar);
     value(answer.table.vector_crypto);
     value(answer.table.transactional_memory);
+    value(answer.table.copy_paste);
+    value(answer.table.radix_translation);
+    value(answer.table.second_watchpoint);
     value(answer.table.coprocessor);
+    for (i = 0; i < YEBKUZAN_LATER_BYTES; i++)
+        value(answer.table.raw_later[i]);
     return answer.number;
 }
 
@@ -497,7 +519,8 @@ static void run_case(void)
     case 'p': run_bytes(PAGE_SIZES, page_sizes); break;
     case 's': run_bytes(SEGMENT_SIZES, segment_sizes); break;
     case 'g': run_bytes(SEGMENT_PAGE_SIZES, segment_page_sizes); break;
-    case 'a': run_bytes(PA_FEATURES, pa_features); break;
+    case 'x': run_bytes(RADIX_ENCODINGS, radix_encodings); break;
+    case 'a': edition = take32(); run_bytes(PA_FEATURES, pa_features); break;
     case 'i': run_bytes(PI_FEATURES, pi_features); break;
     case 'f': run_bytes(BUS_FREQUENCY, bus_frequency); break;
     case 'm': run_string_place(); break;

@@ -180,7 +180,7 @@ def of_wrong_container(chance):
 
 def of_many_properties(chance):
     """Three nodes with up to 90 properties each, of names that are alike; at times one is given twice."""
-    length, letters = chance.choice((2, 4, 16, 31)), chance.choice((b"ab", b"aQ-0", b"abcdefgh#?,.09"))
+    length, letters = chance.choice((2, 4, 31, 63)), chance.choice((b"ab", b"aQ-0", b"abcdefgh#?,.09"))
     many = chance.between(1, 90)
     names = {bytes(chance.choice(letters) for _ in range(chance.between(1, length))) for _ in range(many)}
     names = chance.shuffled(sorted(names))
@@ -209,7 +209,8 @@ def of_bad_names(chance):
     if chance.below(2):
         one = one._replace(name=chance.choice((*BAD_NAMES, any_name, any_name, any_name)))
     else:
-        name = chance.choice((*BAD_NAMES, b"p" * 31, b"p" * 32, b"p?#", b"p@", any_name, any_name, any_name))
+        long = b"p" * chance.choice((31, 32, 62, 63, 63, 64, 65))
+        name = chance.choice((*BAD_NAMES, long, long, b"p?#", b"p@", any_name, any_name, any_name))
         one = with_property(one, name, chance.bytes(chance.below(5)))
     return flattened(chance, root(container(node("e", isa=1, usable_privilege=0), one)))
 

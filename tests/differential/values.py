@@ -1,7 +1,20 @@
 """Property blocks, values of tables, string lists and unit texts by chance, for the differential test."""
 
 from vectors.blocks import NOP, prop
-from vectors.properties import GAP, HEX_DIGITS, attributes_random, cells, gaps_random, mutated, segments_random, sizes_random
+from vectors.properties import (
+    GAP,
+    HEX_DIGITS,
+    attribute,
+    attributes_random,
+    cells,
+    encodings,
+    gaps_random,
+    mutated,
+    pa_random,
+    radix_random,
+    segments_random,
+    sizes_random,
+)
 from vectors.strings import chance_query, joined
 
 ALL_ONES = 2**32 - 1
@@ -19,6 +32,23 @@ def sizes(kind, chance, many):
         if place % 8 == 6:
             value = cells(*range(chance.between(14, 19))) + chance.bytes(chance.choice((0, 0, 1)))
         if place % 8 == 7:
+            value = chance.bytes(chance.below(20))
+        yield value
+
+
+def radix(chance, many):
+    """As the stored vectors have them; few APs and exponents in any order; exponents about 63 and of all lengths; sixteen and more cells;
+    any bytes."""
+    for place, (_, value, _) in enumerate(radix_random(chance, many)):
+        if place % 8 == 3:
+            pairs = [(chance.below(8), chance.choice((12, 16, 21, 30, 63))) for _ in range(chance.between(1, 4))]
+            value = encodings(*pairs)
+        if place % 8 == 5:
+            near = chance.between(60, 66)
+            value = encodings((chance.below(8), 12), (chance.below(8), chance.choice((near, near, 2 ** chance.below(29), 2**29 - 1))))
+        if place % 8 == 6:
+            value = encodings(*[(chance.below(8), at) for at in range(chance.between(14, 19))]) + chance.bytes(chance.choice((0, 0, 1)))
+        if place % 16 == 7:
             value = chance.bytes(chance.below(20))
         yield value
 
@@ -43,6 +73,26 @@ def attributes(kind, chance, many):
         if place % 8 == 7:
             value = chance.bytes(chance.below(30))
         yield value
+
+
+# Mostly the two, then others that are near them or have a byte of theirs.
+EDITIONS = *[0] * 16, *[1] * 48, 2, 3, 256, 257, 2**16 + 1, 2**24, 2**31, ALL_ONES
+
+
+def editions(chance, many):
+    """(value, edition): as above, contents of up to 254 bytes, and contents with few bits set, about bytes 24, 38, 40 and 64."""
+    long = [value for _, value, _ in pa_random(chance, many)]
+    for place, value in enumerate(attributes("a", chance, many)):
+        if place % 8 in (0, 1, 3, 4):
+            value = long[place]
+        if place % 8 == 2:
+            contents = bytearray(chance.choice((64, 65, 66, 254, chance.between(25, 66))))
+            for _ in range(chance.between(1, 3)):
+                at = chance.choice((23, 24, 37, 38, 38, 39, 40, 40, 41, 63, 64, 64, 65, 253))
+                if at < len(contents):
+                    contents[at] = chance.choice((1, 0x40, 0x7F, 0x80, 0x80, 0x81))
+            value = attribute(0, bytes(contents))
+        yield value, chance.choice(EDITIONS)
 
 
 def frequencies(chance, many):
@@ -106,7 +156,7 @@ def lookups(chance, many):
     for place in range(many):
         names = [bytes(chance.choice(b"abcdefgh#?-09") for _ in range(chance.between(1, 6))) for _ in range(8)]
         if place % 4 == 0:
-            names[chance.below(8)] = chance.choice((b"p" * 31, b"p" * 31, b"p" * 32, b"p@", b"\xff", b""))
+            names[chance.below(8)] = chance.choice((b"p" * 32, b"p" * 63, b"p" * 63, b"p" * 64, b"p@", b"\xff", b""))
         strings = b"\0".join(names) + (b"\0" if chance.below(8) else b"")
         firsts = [0, *[at + 1 for at, byte in enumerate(strings[:-1]) if byte == 0]]
         if place % 8 == 1:
@@ -117,4 +167,4 @@ def lookups(chance, many):
         if place % 32 == 3:
             blocks[chance.below(2)] = chance.bytes(chance.below(40))
         name = chance.choice(names)[chance.choice((0, 0, 0, 1)) :]
-        yield (*blocks, strings, chance.bytes(chance.below(40)) if place % 32 == 5 else name)
+        yield (*blocks, strings, chance.bytes(chance.below(72)) if place % 32 == 5 else name)

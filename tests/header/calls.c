@@ -43,6 +43,57 @@ static void segments(void)
     EXPECT(yebkuzan_segment_page_sizes(value, sizeof value - 1).number == YEBKUZAN_REFUSAL_PROPERTY_FORM);
 }
 
+static void radix(void)
+{
+    static const uint8_t value[] = { 0, 0, 0, 12, 0xa0, 0, 0, 16, 0x20, 0, 0, 21, 0x40, 0, 0, 30 };
+    static const uint8_t ones[] = { 0xff, 0xff, 0xff, 0xff };
+    static const uint8_t equal[] = { 0, 0, 0, 12, 0x20, 0, 0, 12 };
+    YebkuzanRadixEncodings r = yebkuzan_radix_encodings(value, sizeof value);
+
+    EXPECT(r.number == 0 && r.table.count == 4);
+    EXPECT(r.table.encodings[0].ap == 0 && r.table.encodings[0].exponent == 12);
+    EXPECT(r.table.encodings[1].ap == 5 && r.table.encodings[1].exponent == 16);
+    EXPECT(r.table.encodings[2].ap == 1 && r.table.encodings[2].exponent == 21);
+    EXPECT(r.table.encodings[3].ap == 2 && r.table.encodings[3].exponent == 30);
+    EXPECT(r.table.encodings[4].ap == 0 && r.table.encodings[4].exponent == 0 && r.table.encodings[15].exponent == 0);
+    r = yebkuzan_radix_encodings(equal, sizeof equal);
+    EXPECT(r.number == YEBKUZAN_REFUSAL_NOT_ASCENDING && r.table.count == 0 && r.table.encodings[0].exponent == 0);
+    EXPECT(yebkuzan_radix_encodings(ones, sizeof ones).number == YEBKUZAN_REFUSAL_OUT_OF_RANGE);
+    EXPECT(yebkuzan_radix_encodings(value, 15).number == YEBKUZAN_REFUSAL_PROPERTY_FORM);
+    EXPECT(yebkuzan_radix_encodings(value, 0).number == YEBKUZAN_REFUSAL_PROPERTY_FORM);
+}
+
+/* Bytes from 24 on, in both editions and in another one. */
+static void editions(void)
+{
+    uint8_t value[2 + YEBKUZAN_MOST_BYTES] = { YEBKUZAN_MOST_BYTES, 0 };
+    YebkuzanPaFeatures pa;
+    unsigned k;
+
+    value[2 + 24] = 0xf0;
+    value[2 + 38] = 0x81;
+    value[2 + 40] = 0x7f;
+    value[2 + 64] = 0x80;
+    value[2 + 253] = 0x0f;
+    pa = yebkuzan_pa_features(value, sizeof value, YEBKUZAN_EDITION_LATER);
+    EXPECT(pa.number == 0 && pa.table.copy_paste == 1 && pa.table.radix_translation == 0 && pa.table.second_watchpoint == 1);
+    EXPECT(memcmp(pa.table.raw_later, value + 2 + 24, YEBKUZAN_LATER_BYTES) == 0);
+    EXPECT(pa.table.raw[0] == 0 && pa.table.vector == 0 && pa.table.coprocessor == 0);
+    pa = yebkuzan_pa_features(value, sizeof value, YEBKUZAN_EDITION_FIRST);
+    EXPECT(pa.number == 0 && pa.table.copy_paste == 0 && pa.table.radix_translation == 0 && pa.table.second_watchpoint == 0);
+    for (k = 0; k < YEBKUZAN_LATER_BYTES; k++)
+        EXPECT(pa.table.raw_later[k] == 0);
+    value[0] = 41;
+    value[2 + 40] = 0x80;
+    pa = yebkuzan_pa_features(value, 2 + 41, YEBKUZAN_EDITION_LATER);
+    EXPECT(pa.number == 0 && pa.table.copy_paste == 1 && pa.table.radix_translation == 1 && pa.table.second_watchpoint == 0);
+    EXPECT(pa.table.raw_later[16] == 0x80 && pa.table.raw_later[40] == 0 && pa.table.raw_later[229] == 0);
+    pa = yebkuzan_pa_features(value, 2 + 41, 2);
+    EXPECT(pa.number == YEBKUZAN_REFUSAL_LEVEL && pa.table.copy_paste == 0 && pa.table.raw_later[14] == 0);
+    EXPECT(yebkuzan_pa_features(value, 0, UINT32_MAX).number == YEBKUZAN_REFUSAL_LEVEL);
+    EXPECT(yebkuzan_pa_features(value, 0, YEBKUZAN_EDITION_LATER).number == YEBKUZAN_REFUSAL_PROPERTY_FORM);
+}
+
 static void attributes(void)
 {
     uint8_t value[26] = { 24, 0, 1, 2, 3, 4, 5, 6, 0x80, 0, 8, 9, 10, 11, 12, 13, 14, 15 };
@@ -53,7 +104,7 @@ static void attributes(void)
 
     value[2 + 18] = 0x80;
     value[2 + 22] = 0xff;
-    pa = yebkuzan_pa_features(value, sizeof value);
+    pa = yebkuzan_pa_features(value, sizeof value, YEBKUZAN_EDITION_FIRST);
     pi = yebkuzan_pi_features(value, sizeof value);
     EXPECT(pa.number == 0 && pa.table.raw[0] == 1 && pa.table.raw[5] == 6);
     EXPECT(pa.table.data_streams == 1 && pa.table.vector == 0 && pa.table.vector_scalar == 1);
@@ -61,7 +112,7 @@ static void attributes(void)
     EXPECT(pa.table.coprocessor == UINT64_C(0x08090a0b0c0d0e0f));
     EXPECT(pi.number == 0 && pi.table.count == 24 && memcmp(pi.table.bytes, value + 2, 24) == 0 && pi.table.bytes[253] == 0);
     value[1] = 1;
-    EXPECT(yebkuzan_pa_features(value, sizeof value).number == YEBKUZAN_REFUSAL_NOT_FOUND);
+    EXPECT(yebkuzan_pa_features(value, sizeof value, YEBKUZAN_EDITION_FIRST).number == YEBKUZAN_REFUSAL_NOT_FOUND);
     pi = yebkuzan_pi_features(value, 1);
     EXPECT(pi.number == YEBKUZAN_REFUSAL_PROPERTY_FORM && pi.table.count == 0 && pi.table.bytes[0] == 0);
     EXPECT(bus.number == 0 && bus.frequency == UINT64_C(0x100000002));
@@ -125,6 +176,25 @@ static void properties(void)
     EXPECT(yebkuzan_lookup_reason(cpu, sizeof cpu, parent, sizeof parent, strings, 1, name, 1) == YEBKUZAN_REFUSAL_NAME);
 }
 
+/* Names of 32 and of 63 characters are found, and one of 64 is no name. */
+static void long_names(void)
+{
+    static uint8_t cpu[] = { 0, 0, 0, 3, 0, 0, 0, 0, 0, 0, 0, 32 };
+    uint8_t strings[65];
+    YebkuzanProperty p;
+
+    memset(strings, 'p', 64);
+    strings[64] = 0;
+    p = yebkuzan_find_property(cpu, sizeof cpu, cpu, 0, strings, sizeof strings, strings, 32);
+    EXPECT(p.number == 0 && p.block == YEBKUZAN_CPU_BLOCK && p.offset == 0 && p.length == YEBKUZAN_PROPERTY_HEAD);
+    cpu[11] = 1;
+    p = yebkuzan_find_property(cpu, sizeof cpu, cpu, 0, strings, sizeof strings, strings, YEBKUZAN_MOST_PROPERTY_NAME);
+    EXPECT(p.number == 0 && p.block == YEBKUZAN_CPU_BLOCK);
+    EXPECT(yebkuzan_lookup_reason(cpu, sizeof cpu, cpu, 0, strings, sizeof strings, strings, 64) == YEBKUZAN_REFUSAL_NOT_FOUND);
+    cpu[11] = 0;
+    EXPECT(yebkuzan_lookup_reason(cpu, sizeof cpu, cpu, 0, strings, sizeof strings, strings, 64) == YEBKUZAN_REFUSAL_NAME);
+}
+
 static void resolver(YebkuzanRecord record)
 {
     const YebkuzanGrants grants = { { { 0 } }, { { 0 } }, UINT64_MAX, UINT64_MAX };
@@ -186,9 +256,12 @@ int main(int argc, char **argv)
     tree(argv[1]);
     sizes();
     segments();
+    radix();
     attributes();
+    editions();
     string_lists();
     unit_text();
     properties();
+    long_names();
     return failures != 0;
 }

@@ -116,6 +116,23 @@ WRONG_HEADERS = [
     ("a length missing", "yebkuzan_read_unit(const uint8_t *text, size_t text_length)", "yebkuzan_read_unit(const uint8_t *text)"),
     ("a length of 32 bits", "size_t tree_length);", "uint32_t tree_length);"),
     ("a place of 32 bits", "    size_t place;", "    uint32_t place;"),
+    ("the length of a property's name", "YEBKUZAN_MOST_PROPERTY_NAME 63u", "YEBKUZAN_MOST_PROPERTY_NAME 31u"),
+    ("an edition", "YEBKUZAN_EDITION_LATER 1u", "YEBKUZAN_EDITION_LATER 2u"),
+    ("the later bytes' number", "YEBKUZAN_LATER_BYTES 230u", "YEBKUZAN_LATER_BYTES 229u"),
+    ("the later bytes missing", "    uint8_t raw_later[YEBKUZAN_LATER_BYTES];\n", ""),
+    (
+        "two flags swapped",
+        "    uint8_t copy_paste;\n    uint8_t radix_translation;",
+        "    uint8_t radix_translation;\n    uint8_t copy_paste;",
+    ),
+    ("the edition missing", ", uint32_t edition);", ");"),
+    ("the edition in a byte", ", uint32_t edition);", ", uint8_t edition);"),
+    (
+        "the edition first",
+        "const uint8_t *value, size_t value_length, uint32_t edition",
+        "uint32_t edition, const uint8_t *value, size_t value_length",
+    ),
+    ("another table's answer", "YebkuzanRadixEncodings yebkuzan_radix_encodings(", "YebkuzanSizes yebkuzan_radix_encodings("),
     (
         "two buffers swapped",
         "const uint8_t *list, size_t list_length, const uint8_t *text, size_t text_length",
@@ -128,6 +145,12 @@ WRONG_LAYOUTS = [
     ("a field's width", "uint16_t slots[", "uint32_t slots["),
     ("fields swapped", "    uint32_t exponent;\n    uint32_t encoding;", "    uint32_t encoding;\n    uint32_t exponent;"),
     ("a place of 32 bits", "    size_t place;", "    uint32_t place;"),
+    (
+        "AP and exponent swapped",
+        "    uint32_t ap; /* 0 to 7 */\n    uint32_t exponent;",
+        "    uint32_t exponent;\n    uint32_t ap; /* 0 to 7 */",
+    ),
+    ("fewer later bytes", "YEBKUZAN_LATER_BYTES 230u", "YEBKUZAN_LATER_BYTES 222u"),
     ("a packed struct", "#include <stdint.h>", "#include <stdint.h>\n#pragma pack(1)"),
 ]
 

@@ -6,7 +6,7 @@ from interface import Array, Bytes, Function, Interface
 
 TYPES = {"u8": "uint8_t", "u16": "uint16_t", "u32": "uint32_t", "u64": "uint64_t", "usize": "size_t"}
 
-# The limits that the header names: crate and constant. Others that are public concern the crates alone.
+# The limits and editions that the header names: crate and constant. Others that are public concern the crates alone.
 LIMITS = [
     ("header", "HEADER_BYTES"),
     ("header", "LARGEST_TREE"),
@@ -27,6 +27,9 @@ LIMITS = [
     ("segments", "MOST_DESCRIPTORS"),
     ("segments", "MOST_PAGES"),
     ("attributes", "MOST_BYTES"),
+    ("attributes", "LATER_BYTES"),
+    ("attributes", "EDITION_FIRST"),
+    ("attributes", "EDITION_LATER"),
     ("unit", "MOST_DIGITS"),
     ("unit", "LARGEST_UNIT"),
     ("capi", "CPU_BLOCK"),

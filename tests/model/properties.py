@@ -1,9 +1,9 @@
-"""CPU properties and unit text: document 01's section of that name, restated in Python.
+"""CPU properties and unit text: document 01's section of that name, with what A1 and A13 of document 02 change, restated in Python.
 
 A function for each property, and one each for reading and writing a unit text, take bytes and give
-(number, values). The number is the refusal's, or 0. The values are a flat list of numbers: a table has
-its count first, and zeros in the places that it does not use. Beside a refusal all values are zero; only
-a lent buffer's bytes, which follow the length written, stay as they were.
+(number, values); that of `ibm,pa-features` takes an edition too. The number is the refusal's, or 0. The values
+are a flat list of numbers: a table has its count first, and zeros in the places that it does not use. Beside a
+refusal all values are zero; only a lent buffer's bytes, which follow the length written, stay as they were.
 
 Standard library only, Python 3.9 or later.
 """
@@ -11,6 +11,7 @@ Standard library only, Python 3.9 or later.
 from model.refusals import (
     ACCEPTED,
     GIVEN_TWICE,
+    LEVEL,
     NOT_ASCENDING,
     NOT_THERE,
     NO_UNIT_TEXT,
@@ -26,6 +27,10 @@ MOST_PAIRS = 8
 MOST_BYTES = 254
 LARGEST_EXPONENT = 63
 NO_SIZE = 2**32 - 1
+
+# Of `ibm,pa-features`: how many bytes have a meaning in each edition, and the bytes whose top bit is an attribute.
+MEANT = {0: 24, 1: MOST_BYTES}
+PA_BITS = 6, 16, 18, 20, 22, 38, 40, 64
 
 
 def with_zeros(values, width):
@@ -82,6 +87,20 @@ def segment_sizes(value):
     cells = whole_cells(value)
     exponents = [cell for cell in cells if not is_gap(cell)]
     return size_table(sizes_refusal(value, exponents), cells)
+
+
+def ap_and_exponent(cell):
+    """Of a cell of radix encodings: the top three bits and the other 29 (document 02, A13)."""
+    return divmod(cell, 2**29)
+
+
+def radix_encodings(value):
+    """`ibm,processor-radix-AP-encodings`: the count of cells, and sixteen pairs of AP and exponent."""
+    pairs = [ap_and_exponent(cell) for cell in whole_cells(value)]
+    number = sizes_refusal(value, [exponent for _, exponent in pairs])
+    if number:
+        pairs = []
+    return number, [len(pairs)] + with_zeros([part for pair in pairs for part in pair], 2 * MOST_SIZES)
 
 
 def bus_frequency(value):
@@ -179,13 +198,20 @@ def type_zero(value):
     return ACCEPTED, used[0]
 
 
-def pa_features(value):
-    """`ibm,pa-features`: bytes 0 to 5, the five attribute bits and the coprocessor word."""
+def pa_contents(value, edition):
+    """(number, bytes): those of `ibm,pa-features` that have a meaning in an edition (document 02, A13)."""
+    if edition not in MEANT:
+        return LEVEL, b""
     number, contents = type_zero(value)
-    supplied = contents.ljust(24, b"\0")
-    raw = list(supplied[:6])
-    bits = [1 if supplied[place] >= 0x80 else 0 for place in (6, 16, 18, 20, 22)]
-    return number, raw + bits + [int.from_bytes(supplied[8:16], "big")]
+    return number, contents[: MEANT[edition]]
+
+
+def pa_features(value, edition):
+    """`ibm,pa-features`: bytes 0 to 5, the eight attribute bits, the coprocessor word and bytes 24 to 253."""
+    number, contents = pa_contents(value, edition)
+    supplied = contents.ljust(MOST_BYTES, b"\0")
+    bits = [1 if supplied[place] >= 0x80 else 0 for place in PA_BITS]
+    return number, [*supplied[:6], *bits, int.from_bytes(supplied[8:16], "big"), *supplied[24:]]
 
 
 def pi_features(value):

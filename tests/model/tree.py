@@ -1,4 +1,5 @@
-"""Header, walk and property lookup: document 01's "The walk" and "CPU properties and unit text", restated in Python.
+"""Header, walk and property lookup: document 01's "The walk" and "CPU properties and unit text", with the length of
+property names that A13 of document 02 allows, restated in Python.
 
 `check` gives (number, place) of a lent tree: the first fault of header or walk, or (0, 0). `read` gives the nodes of an
 accepted one beside it, and `containers` the offsets of those that bear the container's name. `lookup` looks for a
@@ -34,9 +35,9 @@ MOST_LEVELS = 16
 
 CONTAINER = b"ibm,powerpc-cpu-features"
 
-# A node name has 1 to 63 characters in all, a property name 1 to 31.
+# A node name has 1 to 63 characters in all, and so has a property name (document 02, A13).
 NODE_NAME = re.compile(rb"(?=.{1,63}\Z)[0-9A-Za-z,._+-]+(@[0-9A-Za-z,._+-]+)?", re.DOTALL)
-PROPERTY_NAME = re.compile(rb"[0-9A-Za-z,._+?#-]{1,31}")
+PROPERTY_NAME = re.compile(rb"[0-9A-Za-z,._+?#-]{1,63}")
 
 
 def cell(data, at):

@@ -289,7 +289,7 @@ def exchanged():
 def chance_strings(chance):
     """Four names, and at times one that is no property name, or no zero byte at the end."""
     names = [bytes(chance.choice(b"abz09,._+-?#") for _ in range(chance.between(1, 6))) for _ in range(3)]
-    names.insert(chance.below(4), b"p" * chance.choice((31, 31, 31, 32)))
+    names.insert(chance.below(4), b"p" * chance.choice((31, 32, 63, 64)))
     if chance.below(4) == 0:
         names.append(chance.bytes(3))
     return b"\0".join(names) + (b"\0" if chance.below(8) else b"")
@@ -319,7 +319,7 @@ def chance_structure(chance, strings):
 
     Where the names of properties come from the first strings alone, some are given twice.
     """
-    reach = min(len(strings), chance.choice((8, 64, 64)))
+    reach = min(len(strings), chance.choice((8, 96, 96)))
     depth = 14 if chance.below(6) == 0 else 1
     parts = [NOP] * chance.below(2) + [begin(b"")] + [begin(b"n")] * (depth - 1)
     with_children = [True] * (depth - 1) + [False]

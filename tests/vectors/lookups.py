@@ -1,4 +1,5 @@
-"""Vectors for the property lookup of document 01's "CPU properties and unit text": kind `l`.
+"""Vectors for the property lookup of document 01's "CPU properties and unit text": kind `l`; and two values that it finds in
+a real tree: kinds `x` and `a` (vectors/properties.py).
 
 The bytes are three lengths (four bytes each, big-endian), of the CPU node's block of properties, of its parent's and
 of the strings block; then these three blocks; the rest is the name that is looked for. The line, after the kind:
@@ -12,7 +13,7 @@ such as P2 name readings of document 01.
 from model import tree as model
 from vectors.blocks import END, END_NODE, ENDING, HERE, NOP, STRINGS, begin, held, joined, padded, prop, read_built
 from vectors.chance import Chance
-from vectors.properties import cells
+from vectors.properties import cells, held as held_values, in_edition, pa_line, pa_refused
 from vectors.trees import PROPERTY_CHARACTERS, TREES, names_with
 
 SEED = 20240303
@@ -241,13 +242,16 @@ def repeated():
 
 def names():
     """The names in the blocks: bad ones refuse even if another is sought (P3)."""
-    long = b"p" * 40 + b"\0"
-    yield found(12, [HERE, prop(9)], NONE, b"p" * 31, strings=long)
-    yield found(12, [prop(9), HERE, prop(10)], NONE, b"p" * 30, strings=long)
-    yield found(12, [prop(9)], [HERE, prop(39), prop(38)], b"p", strings=long)
-    for offset in (0, 8, 40, 41, 42, 2**31, 2**32 - 1, 2**32 - 31):
-        yield refused(7, [prop(offset), prop(9)], NONE, b"p" * 31, strings=long)
-        yield refused(7, [prop(9)], [prop(offset)], b"p" * 31, strings=long)
+    long = b"p" * 72 + b"\0"
+    yield found(12, [HERE, prop(9)], NONE, b"p" * 63, strings=long)
+    yield found(12, [prop(9), HERE, prop(10)], NONE, b"p" * 62, strings=long)
+    yield found(12, [prop(9)], [HERE, prop(71), prop(70)], b"p", strings=long)
+    for length in (30, 31, 32, 33, 61):
+        yield found(12, [prop(9), HERE, prop(72 - length)], [prop(10)], b"p" * length, strings=long)
+        yield found(12, [prop(9)], [HERE, prop(72 - length), prop(10)], b"p" * length, strings=long)
+    for offset in (0, 8, 72, 73, 74, 2**31, 2**32 - 1, 2**32 - 63):
+        yield refused(7, [prop(offset), prop(9)], NONE, b"p" * 63, strings=long)
+        yield refused(7, [prop(9)], [prop(offset)], b"p" * 63, strings=long)
     # Strings without an end, and no strings at all.
     without = (b"reg", 0), (b"name\0reg", 5), (b"\0reg", 1), (b"", 0)
     for strings, offset in (*without, (b"reg\0", 3), (b"reg\0", 4), (b"\0", 0)):
@@ -270,10 +274,11 @@ def names():
 
 def names_sought():
     """One that is no property name is just not found (P6), and a fault comes before that."""
-    strings = STRINGS + b"p" * 31 + b"\0"
+    strings = STRINGS + b"p" * 63 + b"\0"
     longest = prop(len(STRINGS))
     block = [NAME, REG, SIZE, longest]
-    yield found(12, [NAME, REG, HERE, longest], [NAME], b"p" * 31, strings=strings)
+    yield found(12, [NAME, REG, HERE, longest], [NAME], b"p" * 63, strings=strings)
+    yield found(12, [NAME], [NAME, REG, HERE, longest], b"p" * 63, strings=strings)
     for name in (
         b"",
         b"\0",
@@ -292,11 +297,13 @@ def names_sought():
         b"reg ",
         b"reg@0",
         b"x-reg",
-        b"p" * 30,
+        b"p" * 31,
         b"p" * 32,
-        b"p" * 33,
-        b"p" * 63,
-        b"p" * 31 + b"\0",
+        b"p" * 62,
+        b"p" * 64,
+        b"p" * 65,
+        b"p" * 127,
+        b"p" * 63 + b"\0",
         b"p" * 1000,
         b"\xff",
         b"*",
@@ -304,25 +311,36 @@ def names_sought():
     ):
         yield refused(10, block, [NOP], name, strings=strings)
         yield refused(10, [REG], block, name, strings=strings)
-    for name in (b"", b"reg\0", b"p" * 32, b"@"):
+    for name in (b"", b"reg\0", b"p" * 64, b"@"):
         for number, fault in FAULTS.items():
             yield refused(number, fault, block, name, strings=strings)
             yield refused(number, block, fault, name, strings=strings)
     # A property whose name is the one sought, but is bad.
-    yield refused(7, [prop(0)], NONE, b"p" * 32, strings=b"p" * 32 + b"\0")
+    yield refused(7, [prop(0)], NONE, b"p" * 64, strings=b"p" * 64 + b"\0")
     yield refused(7, [prop(0)], NONE, b"", strings=b"\0")
 
 
-# A real CPU node
+# Real CPU nodes
+
+
+def blocks_of(name, behind):
+    """Of a tree of tests/trees: the blocks of the CPU node, up to these bytes, and of `/cpus`, and the strings block."""
+    data = read_built(TREES)[name]
+    cpus, cpu = begin(b"cpus"), begin(b"PowerPC,POWER9@0")
+    parent = data[data.index(cpus) + len(cpus) : data.index(cpu)]
+    block = data[data.index(cpu) + len(cpu) : data.index(END_NODE + behind)]
+    return block, parent, data[int.from_bytes(data[12:16], "big") :]
+
+
+def part_of(block, strings, name, value):
+    """The offset and the length of a property of this name and value."""
+    whole = cells(3, len(value), (b"\0" + strings).index(b"\0" + name + b"\0")) + value
+    return block.index(whole), len(whole)
 
 
 def power9():
     """The CPU node of tests/trees/power9.dts and the properties of `/cpus`."""
-    data = read_built(TREES)["power9"]
-    cpus, cpu, container = (begin(name) for name in (b"cpus", b"PowerPC,POWER9@0", b"ibm,powerpc-cpu-features"))
-    parent = data[data.index(cpus) + len(cpus) : data.index(cpu)]
-    block = data[data.index(cpu) + len(cpu) : data.index(END_NODE + container)]
-    strings = data[int.from_bytes(data[12:16], "big") :]
+    block, parent, strings = blocks_of("power9", begin(b"ibm,powerpc-cpu-features"))
     for name, which, value in (
         (b"ibm,pa-features", 1, bytes.fromhex("1800f63fc7c080f0800000000000000000008000800080008000")),
         (b"ibm,processor-segment-sizes", 1, cells(28, 40, 2**32 - 1, 2**32 - 1)),
@@ -333,15 +351,64 @@ def power9():
         (b"#address-cells", 2, cells(1)),
         (b"#size-cells", 2, cells(0)),
     ):
-        whole = cells(3, len(value), (b"\0" + strings).index(b"\0" + name + b"\0")) + value
-        offset = (block, parent)[which - 1].index(whole)
-        yield "l", query(block, parent, name, strings), "l 0 %d %d %d" % (which, offset, len(whole))
+        place = part_of((block, parent)[which - 1], strings, name, value)
+        yield "l", query(block, parent, name, strings), "l 0 %d %d %d" % (which, *place)
     for name in (b"ibm,processor-page-sizes", b"ibm,pi-features", b"isa", b"features", b"ibm,pa-feature"):
         yield "l", query(block, parent, name, strings), "l 10 0 0 0"
     yield "l", query(block + END_NODE, parent, b"phandle", strings), "l 6 0 0 0"
-    yield "l", query(block, parent + cpu, b"phandle", strings), "l 6 0 0 0"
+    yield "l", query(block, parent + begin(b"PowerPC,POWER9@0"), b"phandle", strings), "l 6 0 0 0"
     yield "l", query(block, parent + parent, b"phandle", strings), "l 9 0 0 0"
     yield "l", query(block, parent, b"phandle", strings[: strings.index(b"\0interrupt-parent\0") + 8]), "l 7 0 0 0"
+
+
+RADIX_NAME = b"ibm,processor-radix-AP-encodings"
+
+# What tests/trees/pseries.dts has of these, written down from it.
+RADIX = cells(0x0C, 0xA0000010, 0x20000015, 0x4000001E)
+ATTRIBUTES = cells(
+    *(0x4200F63F, 0xC7C080F0, 0x80000000, 0, 0x8000, 0x80008000, 0x8000, 0x80008000, 0x80008000, 0xC0008000),
+    *[0x80008000] * 6,
+    0x80000000,
+)
+
+
+def pseries():
+    """The CPU node of tests/trees/pseries.dts, which has a name of 32 characters among its properties, and those of `/cpus`."""
+    block, parent, strings = blocks_of("pseries", END_NODE)
+    for name, which, value in (
+        (RADIX_NAME, 1, RADIX),
+        (b"ibm,pa-features", 1, ATTRIBUTES),
+        (b"ibm,segment-page-sizes", 1, cells(12, 0, 1, 12, 0, 16, 0x110, 1, 16, 1)),
+        (b"ibm,processor-segment-sizes", 1, cells(28, 40, 2**32 - 1, 2**32 - 1)),
+        (b"ibm,dec-bits", 1, cells(0x38)),
+        (b"ibm,my-drc-index", 1, cells(0x10000000)),
+        (b"64-bit", 1, b""),
+        (b"ibm,drc-names", 2, cells(1) + b"CPU 0\0"),
+        (b"#address-cells", 2, cells(1)),
+    ):
+        place = part_of((block, parent)[which - 1], strings, name, value)
+        yield "l", query(block, parent, name, strings), "l 0 %d %d %d" % (which, *place)
+        # The other way round.
+        yield "l", query(parent, block, name, strings), "l 0 %d %d %d" % (3 - which, *place)
+    for name in (RADIX_NAME[:-1], RADIX_NAME[1:], RADIX_NAME + b"s", RADIX_NAME + b"\0", RADIX_NAME.lower(), b"ibm,pi-features"):
+        yield "l", query(block, parent, name, strings), "l 10 0 0 0"
+    yield "l", query(parent, parent, RADIX_NAME, strings), "l 10 0 0 0"
+    yield "l", query(block + block, parent, RADIX_NAME, strings), "l 9 0 0 0"
+
+
+def pseries_values():
+    """The two values as they stand where the lookup finds them."""
+    block, parent, strings = blocks_of("pseries", END_NODE)
+    places = [model.lookup(block, parent, strings, name) for name in (RADIX_NAME, b"ibm,pa-features")]
+    radix, attributes = (block[offset + 12 : offset + length] for _, _, offset, length in places)
+    if (radix, attributes) != (RADIX, ATTRIBUTES):
+        raise ValueError("the model finds %s and %s in the pseries tree" % (radix.hex(), attributes.hex()))
+    yield "x", radix, "x 0 4 0 12 5 16 1 21 2 30" + " 0" * 24
+    raw, bits = [0xF6, 0x3F, 0xC7, 0xC0, 0x80, 0xF0], [1, 1, 1, 1, 0]
+    later = [0x80, 0, 0x80, 0, 0x80, 0, 0x80, 0, 0x80, 0, 0xC0, 0, *[0x80, 0] * 14, 0, 0]
+    yield "a", in_edition(0, attributes), pa_line(raw, bits, 0)
+    yield "a", in_edition(1, attributes), pa_line(raw, bits, 0, [1, 1, 0], later)
+    yield "a", in_edition(2, attributes), pa_refused(15)
 
 
 # By chance
@@ -382,6 +449,7 @@ def cases():
     yield from names()
     yield from names_sought()
     yield from power9()
+    yield from pseries()
     yield from lookups_by_chance(Chance(SEED), 80)
 
 
@@ -397,4 +465,5 @@ def answer(data):
 
 
 def vectors():
-    return held(cases(), answer)
+    yield from held(cases(), answer)
+    yield from held_values(pseries_values())

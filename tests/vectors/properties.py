@@ -7,11 +7,15 @@
 | p    | page sizes                                                           | count, 16 exponents |
 | s    | segment sizes                                                        | count, 16 exponents, `none` for one that is no size |
 | g    | segment page sizes                                                   | count, then 8 times base, encoding, count and 8 pairs of exponent and encoding |
-| a    | `ibm,pa-features`                                                    | 6 raw bytes, data streams, vector, vector scalar, vector crypto, transactional memory, coprocessor word |
+| x    | radix encodings                                                      | count, 16 pairs of AP and exponent |
+| a    | an edition (four bytes, big-endian), then `ibm,pa-features`          | 6 raw bytes, eight attributes, coprocessor word, 230 later bytes |
 | i    | `ibm,pi-features`                                                    | count, 254 bytes |
 | f    | `ibm,extended-bus-frequency`                                         | the frequency |
 
-The lines come from the model (tests/model/properties.py). Wherever document 01 fixes what is to come, it is
+The eight attributes are data streams, vector, vector scalar, vector crypto and transactional memory, and those of the
+later edition: copy and paste, radix translation, second watchpoint.
+
+The lines come from the model (tests/model/properties.py). Wherever documents 01 and 02 fix what is to come, it is
 written down here by hand as well, and a model that says something else is an error: each group yields (kind,
 bytes, expected), where `expected` is the whole line, the refusal number, or None for whatever the model says.
 """
@@ -20,6 +24,7 @@ from model import properties as model
 from vectors.chance import Chance
 
 SEED = 20240101
+SEED_A13 = 20240113
 
 HEX_DIGITS = b"0123456789abcdefABCDEF"
 
@@ -32,7 +37,8 @@ ANSWERS = {
     "p": model.page_sizes,
     "s": model.segment_sizes,
     "g": model.segment_page_sizes,
-    "a": model.pa_features,
+    "x": lambda data: model.radix_encodings(data),
+    "a": lambda data: model.pa_features(data[4:], int.from_bytes(data[:4], "big")),
     "i": model.pi_features,
     "f": model.bus_frequency,
 }
@@ -55,6 +61,11 @@ def descriptor(base, pairs, encoding=0, count=None):
 def attribute(kind, contents, length=None):
     """An attribute descriptor; `length` where it is to be wrong."""
     return bytes([len(contents) if length is None else length, kind]) + contents
+
+
+def in_edition(edition, value):
+    """The bytes of a vector of kind `a`."""
+    return cells(edition) + value
 
 
 def zeros_but(length, changes):
@@ -411,6 +422,130 @@ def sizes_random(kind, chance, many):
             yield kind, mutated(chance, value), None
 
 
+# Radix encodings
+
+
+def encodings(*pairs):
+    """The cells of pairs of AP and exponent."""
+    return cells(*(2**29 * ap + exponent for ap, exponent in pairs))
+
+
+def radix_line(*pairs):
+    """The line of a table of these pairs."""
+    return " ".join(map(str, ["x", 0, len(pairs), *(part for pair in pairs for part in pair), *[0, 0] * (16 - len(pairs))]))
+
+
+def radix_refused(number):
+    return " ".join(map(str, ["x", number] + [0] * 33))
+
+
+def radix_edges():
+    # That of a real host, POWER9.
+    yield "x", cells(0x0C, 0xA0000010, 0x20000015, 0x4000001E), radix_line((0, 12), (5, 16), (1, 21), (2, 30))
+    yield "x", cells(0xFFFFFFFF), radix_refused(12)
+    yield "x", cells(0xE000003F), radix_line((7, 63))
+    yield "x", cells(0xE0000040), radix_refused(12)
+    yield "x", b"", radix_refused(11)
+    # Every AP, the least and the largest exponent, and one above that.
+    for ap in range(8):
+        for exponent in (0, 1, 12, 32, 62, 63):
+            yield "x", encodings((ap, exponent)), radix_line((ap, exponent))
+        for exponent in (64, 65, 127, 255, 2**16, 2**27, 2**28, 2**28 + 12, 2**29 - 64, 2**29 - 1):
+            yield "x", encodings((ap, exponent)), radix_refused(12)
+        yield "x", encodings((ap, 12), (ap, 16), (ap, 30)), radix_line((ap, 12), (ap, 16), (ap, 30))
+        yield "x", encodings((ap, 12), (ap, 12)), radix_refused(19)
+    # The order is that of exponents: APs may repeat, rise or fall.
+    for pairs in (
+        [(0, 0), (0, 1)],
+        [(7, 0), (0, 63)],
+        [(7, 12), (6, 13)],
+        [(5, 12), (1, 16), (0, 21)],
+        [(0, 12), (5, 16), (5, 21), (0, 30)],
+        [(3, 62), (2, 63)],
+        [(place % 8, place) for place in range(16)],
+        [(7 - place % 8, 48 + place) for place in range(16)],
+        [(7, place) for place in range(16)],
+        [(0, 4 * place) for place in range(16)],
+    ):
+        yield "x", encodings(*pairs), radix_line(*pairs)
+    for pairs in (
+        [(0, 12), (1, 12)],
+        [(0, 12), (7, 12)],
+        [(1, 12), (0, 12)],
+        [(0, 12), (1, 11)],
+        [(0, 63), (1, 0)],
+        [(1, 63), (1, 62)],
+        [(0, 12), (1, 16), (2, 16)],
+        [(0, 12), (1, 16), (2, 14)],
+        [(0, 12), (1, 16), (2, 12)],
+        [(2, 12), (1, 16), (0, 12)],
+        [(place % 8, place) for place in range(15)] + [(7, 14)],
+        [(place % 8, place) for place in range(15)] + [(7, 0)],
+        # Before one that is out of range.
+        [(0, 12), (1, 12), (2, 64)],
+        [(0, 12), (1, 11), (7, 2**29 - 1)],
+        [(0, 0), (1, 0)] + [(7, 2**29 - 1)] * 14,
+    ):
+        yield "x", encodings(*pairs), radix_refused(19)
+    for pairs in (
+        [(0, 12), (1, 64)],
+        [(place % 8, place) for place in range(15)] + [(7, 64)],
+        # Before one that does not ascend.
+        [(0, 64), (1, 64)],
+        [(1, 64), (0, 5)],
+        [(0, 5), (1, 64), (2, 3)],
+        [(0, 2**29 - 1), (1, 2**28)],
+        [(0, 12), (7, 2**29 - 1), (0, 13)],
+        [(0, 12), (7, 2**29 - 1), (0, 12)],
+    ):
+        yield "x", encodings(*pairs), radix_refused(12)
+    # A cell of all ones is no gap.
+    for row in ([GAP, 12], [12, GAP], [12, GAP, 16], [12, 16, GAP, GAP], [GAP] * 16):
+        yield "x", cells(*row), radix_refused(12)
+    # The maximum comes before every cell, and the length before the maximum.
+    for row in (range(17), range(47, 64), [64] * 17, [5] * 17, [GAP] * 17, range(64), [0xE0000040] + list(range(16)), range(257)):
+        yield "x", cells(*row), radix_refused(8)
+    for value in (
+        cells(*range(17)) + b"\0",
+        cells(*[64] * 17) + b"\0",
+        cells(*range(63)) + b"\0\0\0",
+        cells(*range(16)) + b"\xff",
+        cells(0xE0000040) + b"\0",
+        cells(5, 5) + b"\0\0",
+        b"\x0c",
+        b"\0\0\x0c",
+        b"\xff" * 67,
+    ):
+        yield "x", value, radix_refused(11)
+
+
+def radix_lengths():
+    """The first bytes of eighteen cells, whose exponents ascend and whose APs fall."""
+    pairs = [(7 - place % 8, 3 * place + 3) for place in range(18)]
+    for length in range(73):
+        if length == 0 or length % 4:
+            yield "x", encodings(*pairs)[:length], radix_refused(11)
+        else:
+            yield "x", encodings(*pairs)[:length], radix_refused(8) if length > 64 else radix_line(*pairs[: length // 4])
+
+
+def radix_random(chance, many):
+    """Ascending exponents with any APs, up to seventeen cells; then out of order, with another exponent, or with bytes changed."""
+    for place in range(many):
+        pairs = [(chance.below(8), exponent) for exponent in sorted(chance.shuffled(range(64))[: chance.between(1, 17)])]
+        if place % 4 == 0:
+            yield "x", encodings(*pairs), radix_line(*pairs) if len(pairs) <= 16 else radix_refused(8)
+        elif place % 4 == 1:
+            yield "x", encodings(*chance.shuffled(pairs)), None
+        elif place % 4 == 2:
+            at = chance.below(len(pairs))
+            exponent = chance.choice((pairs[at][1] + 1, pairs[at][1] + 64, 2 ** chance.between(0, 28), chance.below(2**29)))
+            pairs[at] = pairs[at][0], exponent
+            yield "x", encodings(*pairs), None
+        else:
+            yield "x", mutated(chance, encodings(*pairs)), None
+
+
 # Segment page sizes
 
 
@@ -684,43 +819,155 @@ def attributes_random(kind, chance, many):
             yield kind, mutated(chance, value), None
 
 
-def pa_line(raw, bits, coprocessor):
-    return " ".join(map(str, ["a", 0, *raw, *bits, coprocessor]))
+def in_both(values):
+    """Values of `ibm,pa-features` in both editions, which refuse alike."""
+    for kind, value, number in values:
+        for edition in (0, 1):
+            yield kind, in_edition(edition, value), number
+
+
+NO_RAW = [0] * 6
+NO_BITS = [0] * 5
+NO_LATER_BITS = [0] * 3
+
+
+def pa_line(raw, bits, coprocessor, later_bits=(0, 0, 0), later=()):
+    """The line of an accepted value; in the first edition the last two are not given."""
+    return " ".join(map(str, ["a", 0, *raw, *bits, *later_bits, coprocessor, *later, *[0] * (230 - len(later))]))
+
+
+def pa_refused(number):
+    return " ".join(map(str, ["a", number] + [0] * 245))
+
+
+def pa_both(contents, raw=NO_RAW, bits=NO_BITS, coprocessor=0, later_bits=NO_LATER_BITS):
+    """One descriptor in both editions: the later bits and the bytes from 24 on are those of the later one alone."""
+    value = attribute(0, contents)
+    yield "a", in_edition(0, value), pa_line(raw, bits, coprocessor)
+    yield "a", in_edition(1, value), pa_line(raw, bits, coprocessor, later_bits, contents[24:])
 
 
 def pa_bits():
     """Each bit of the bytes that hold an attribute, alone; and the bytes around them."""
-    none = [0] * 6
     for attribute_place, byte_place in enumerate((6, 16, 18, 20, 22)):
         for bit in range(8):
             bits = [0] * 5
             bits[attribute_place] = 1 if bit == 7 else 0
-            yield "a", attribute(0, zeros_but(24, {byte_place: 2**bit})), pa_line(none, bits, 0)
+            yield from pa_both(zeros_but(24, {byte_place: 2**bit}), bits=bits)
     for place in (7, 17, 19, 21, 23, 24, 25, 29):
-        yield "a", attribute(0, zeros_but(30, {place: 0xFF})), pa_line(none, [0] * 5, 0)
+        yield from pa_both(zeros_but(30, {place: 0xFF}))
     for place in range(8, 16):
         word = (0x80 + place) * 256 ** (15 - place)
-        yield "a", attribute(0, zeros_but(24, {place: 0x80 + place})), pa_line(none, [0] * 5, word)
+        yield from pa_both(zeros_but(24, {place: 0x80 + place}), coprocessor=word)
     for place in range(6):
         raw = [0xC1 if place == at else 0 for at in range(6)]
-        yield "a", attribute(0, zeros_but(24, {place: 0xC1})), pa_line(raw, [0] * 5, 0)
+        yield from pa_both(zeros_but(24, {place: 0xC1}), raw)
     every = {place: 0x7F for place in (6, 16, 18, 20, 22)}
-    yield "a", attribute(0, zeros_but(24, every)), pa_line(none, [0] * 5, 0)
+    yield from pa_both(zeros_but(24, every))
     every = {place: 0x80 for place in (6, 16, 18, 20, 22)}
-    yield "a", attribute(0, zeros_but(24, every)), pa_line(none, [1] * 5, 0)
-    yield "a", attribute(0, bytes(24) + b"\xff" * 230), pa_line(none, [0] * 5, 0)
+    yield from pa_both(zeros_but(24, every), bits=[1] * 5)
+    yield from pa_both(bytes(24) + b"\xff" * 230, later_bits=[1] * 3)
     word = 0x0102030405060708
-    yield "a", attribute(0, bytes(8) + word.to_bytes(8, "big")), pa_line(none, [0] * 5, word)
+    yield from pa_both(bytes(8) + word.to_bytes(8, "big"), coprocessor=word)
     # Supplied up to the middle of the word.
-    yield "a", attribute(0, bytes(8) + b"\1\2\3"), pa_line(none, [0] * 5, 0x0102030000000000)
+    yield from pa_both(bytes(8) + b"\1\2\3", coprocessor=0x0102030000000000)
     # Real values, of POWER9 under OPAL and of a pseries machine.
-    yield "a", bytes.fromhex("1800f63fc7c080f0800000000000000000008000800080008000"), pa_line(
-        [0xF6, 0x3F, 0xC7, 0xC0, 0x80, 0xF0], [1, 1, 1, 1, 1], 0
-    )
-    yield "a", bytes.fromhex(
-        "4200f63fc7c080f080000000000000000000800080008000000080008000800080008000c000800080008000"
+    raw = [0xF6, 0x3F, 0xC7, 0xC0, 0x80, 0xF0]
+    yield from pa_both(bytes.fromhex("f63fc7c080f0800000000000000000008000800080008000"), raw, [1, 1, 1, 1, 1])
+    pseries = bytes.fromhex(
+        "f63fc7c080f080000000000000000000800080008000000080008000800080008000c000800080008000"
         "800080008000800080008000800080008000800080000000"
-    ), pa_line([0xF6, 0x3F, 0xC7, 0xC0, 0x80, 0xF0], [1, 1, 1, 1, 0], 0)
+    )
+    yield from pa_both(pseries, raw, [1, 1, 1, 1, 0], later_bits=[1, 1, 0])
+
+
+def pa_later_bits():
+    """The same of bytes 38, 40 and 64, which are handed on raw as well."""
+    for attribute_place, byte_place in enumerate((38, 40, 64)):
+        for byte in (*[2**bit for bit in range(8)], 0x7F, 0x81, 0xFF):
+            later_bits = [0] * 3
+            later_bits[attribute_place] = 1 if byte >= 128 else 0
+            yield from pa_both(zeros_but(254, {byte_place: byte}), later_bits=later_bits)
+        # As the last byte supplied, and not supplied.
+        later_bits = [1 if attribute_place == at else 0 for at in range(3)]
+        yield from pa_both(zeros_but(byte_place + 1, {byte_place: 0x80}), later_bits=later_bits)
+        yield from pa_both(bytes(byte_place + 1))
+        yield from pa_both(bytes(byte_place))
+        # All bits but this one.
+        others = {place: 0xFF for place in range(254) if place != byte_place}
+        yield from pa_both(zeros_but(254, others), [255] * 6, [1] * 5, 2**64 - 1, [1 - bit for bit in later_bits])
+    for place in (24, 36, 37, 39, 41, 42, 62, 63, 65, 66, 128, 252, 253):
+        yield from pa_both(zeros_but(254, {place: 0xFF}))
+    for byte, bit in ((0x7F, 0), (0x01, 0), (0x80, 1)):
+        yield from pa_both(zeros_but(66, {place: byte for place in (38, 40, 64)}), later_bits=[bit] * 3)
+
+
+def pa_lengths():
+    """A descriptor of each length. Byte k is 255 - k, so that no two are alike, but for the top bit of bytes 38, 40 and 64, which is
+    set and clear in turn, and both where one of them is the last byte or the first that is not supplied."""
+    word = 0xF7F6F5F4F3F2F1F0
+    for length in range(1, 255):
+        patterns = range(8) if length in (38, 39, 40, 41, 64, 65) else (length % 8,)
+        for pattern in patterns:
+            whole = bytearray(range(255, 1, -1))
+            later_bits = [pattern & 1, pattern // 2 & 1, pattern // 4]
+            for place, bit in zip((38, 40, 64), later_bits):
+                whole[place] -= 0x80 * (1 - bit)
+            yield from pa_both(
+                bytes(whole[:length]),
+                [255 - place if place < length else 0 for place in range(6)],
+                [1 if place < length else 0 for place in (6, 16, 18, 20, 22)],
+                word - word % 256 ** max(0, min(8, 16 - length)),
+                [bit if place < length else 0 for place, bit in zip((38, 40, 64), later_bits)],
+            )
+
+
+def pa_beside_others():
+    """Descriptors of other types before and behind the one of type 0, whose bytes end where it ends."""
+    ones = attribute(255, b"\xff" * 254)
+    for length in (5, 6, 23, 24, 25, 37, 38, 40, 64, 253, 254):
+        contents = b"\x11" * length
+        raw, word = [0x11 if place < length else 0 for place in range(6)], 0x1111111111111111 if length >= 16 else 0
+        for value in (ones + attribute(0, contents), attribute(0, contents) + ones, ones + attribute(0, contents) + ones):
+            yield "a", in_edition(0, value), pa_line(raw, NO_BITS, word)
+            yield "a", in_edition(1, value), pa_line(raw, NO_BITS, word, NO_LATER_BITS, contents[24:])
+
+
+def pa_editions():
+    """15 for an edition other than the two, before 11, 12, 10 and 9."""
+    good = attribute(0, b"\xff" * 66)
+    values = (
+        good,
+        attribute(0, b"\x80"),
+        attribute(1, b"\0") + good,
+        b"",
+        b"\0",
+        good + b"\1",
+        good[:-1],
+        b"\0\0",
+        b"\xff\0",
+        good + b"\0\1",
+        attribute(1, b"\0"),
+        good + good,
+    )
+    for edition in (2, 3, 4, 255, 256, 257, 2**16, 2**24, 2**31, 2**31 + 1, 2**32 - 2, 2**32 - 1):
+        for value in values:
+            yield "a", in_edition(edition, value), pa_refused(15)
+    for value, number in zip(values[3:], (11, 11, 11, 11, 12, 12, 12, 10, 9)):
+        for edition in (0, 1):
+            yield "a", in_edition(edition, value), pa_refused(number)
+
+
+def pa_random(chance, many):
+    """(kind, value, number) with contents of up to 254 bytes."""
+    for place in range(many):
+        used = attribute(0, chance.bytes(chance.choice((24, 25, 38, 39, 40, 41, 64, 65, 66, 254, chance.between(1, 254)))))
+        others = [attribute(chance.between(1, 255), chance.bytes(chance.between(1, 12))) for _ in range(chance.below(3))]
+        value = b"".join(chance.shuffled([used] + others))
+        if place % 4 == 3:
+            yield "a", mutated(chance, value), None
+        else:
+            yield "a", value, 0
 
 
 # Extended bus frequency
@@ -756,11 +1003,11 @@ def cases():
     yield from segments_edges()
     yield from segments_order()
     yield from segments_random(chance, 32)
-    yield from attributes_edges("a")
-    yield from attributes_cut("a")
-    yield from attributes_lengths("a", range(1, 31))
+    yield from in_both(attributes_edges("a"))
+    yield from in_both(attributes_cut("a"))
+    yield from in_both(attributes_lengths("a", range(1, 31)))
     yield from pa_bits()
-    yield from attributes_random("a", chance, 24)
+    yield from in_both(attributes_random("a", chance, 24))
     yield from attributes_edges("i")
     yield from attributes_cut("i")
     yield from attributes_lengths("i", (1, 2, 3, 4, 6, 7, 8, 16, 23, 24, 25, 30, 100, 128, 253, 254))
@@ -769,12 +1016,21 @@ def cases():
     yield from page_gaps()
     yield from segment_gaps()
     yield from gaps_random(chance, 32)
+    chance = Chance(SEED_A13)
+    yield from pa_later_bits()
+    yield from pa_lengths()
+    yield from pa_beside_others()
+    yield from pa_editions()
+    yield from in_both(pa_random(chance, 32))
+    yield from radix_edges()
+    yield from radix_lengths()
+    yield from radix_random(chance, 64)
 
 
-def vectors():
+def held(cases):
     """(kind, bytes, line) of every case, held to what is expected of it. What two groups share is given once."""
     seen = set()
-    for kind, data, expected in cases():
+    for kind, data, expected in cases:
         number, values = ANSWERS[kind](data)
         line = " ".join(map(str, [kind, number, *shown(kind, values)]))
         if expected is not None and expected not in (line, number):
@@ -782,3 +1038,7 @@ def vectors():
         if (kind, data) not in seen:
             seen.add((kind, data))
             yield kind, data, line
+
+
+def vectors():
+    return held(cases())

@@ -168,8 +168,12 @@ BUILT = {
     # The tree of a real host, some of whose user features have no capability bit (document 02, A2).
     "power9-features": 0,
     "power9-reduced": 0,
-    "property-name-32": refused_line(7, 0x6C),
-    "pseries": refused_line(7, 0x164),
+    # All of that tree, which has a long property name (document 02, A13).
+    "power9-whole": 0,
+    "property-name-32": refused_line(10, 0x38),
+    "property-name-63": refused_line(10, 0x38),
+    "property-name-64": refused_line(7, 0x6C),
+    "pseries": refused_line(10, 0x38),
     "same-names": refused_line(10, 0x38),
     "several-containers": refused_line(9, 0x7C),
     "shared-endings": refused_line(10, 0x38),

@@ -63,8 +63,11 @@ BUILT = {
     "power9": accepted_line([0x4CC]),
     "power9-features": accepted_line([0x4C]),
     "power9-reduced": accepted_line([0x624]),
-    "property-name-32": refused_line(7, 0x6C),
-    "pseries": refused_line(7, 0x164),
+    "power9-whole": accepted_line([0x710]),
+    "property-name-32": accepted_line([]),
+    "property-name-63": accepted_line([]),
+    "property-name-64": refused_line(7, 0x6C),
+    "pseries": accepted_line([]),
     "same-names": accepted_line([]),
     "several-containers": accepted_line([0x4C, 0x7C, 0xC4]),
     "shared-endings": accepted_line([]),
@@ -324,15 +327,16 @@ def levels():
 
 
 def property_name_lengths():
-    for length in (1, 2, 3, 4, 15, 16, 29, 30, 31):
+    for length in (1, 2, 3, 4, 15, 16, 29, 30, 31, 32, 33, 34, 61, 62, 63):
         yield case(0, *root(prop(0)), strings=b"p" * length + b"\0")
-    for length in (0, 32, 33, 34, 62, 63, 64, 100, 256):
+        yield case(0, *root(prop(b"reg"), *node(b"n", prop(len(STRINGS)))), strings=STRINGS + b"p" * length + b"\0")
+    for length in (0, 64, 65, 66, 100, 127, 128, 256, 319):
         yield case(7, begin(b""), HERE, prop(0), *closing(1), strings=b"p" * length + b"\0")
     # The last characters of a string that is too long as a whole (W8).
-    long = b"p" * 40 + b"\0"
-    for offset in (9, 10, 39):
+    long = b"p" * 72 + b"\0"
+    for offset in (9, 10, 40, 41, 71):
         yield case(0, *root(prop(offset)), strings=long)
-    for offset in (0, 7, 8, 40, 41, 42):
+    for offset in (0, 7, 8, 72, 73, 74):
         yield case(7, begin(b""), HERE, prop(offset), *closing(1), strings=long)
 
 
@@ -347,10 +351,11 @@ def property_name_characters():
             yield case(7, begin(b""), HERE, prop(0), *closing(1), strings=strings)
     yield case(7, begin(b""), HERE, prop(0), *closing(1), strings=b"\0abcd\0")
     yield case(0, *root(prop(0)), strings=b"ab\0*d")
-    for name in (b"@", b"a@", b"@a", b"a@b", b"p" * 30 + b"@", b"*", b"/", b"a b"):
+    for name in (b"@", b"a@", b"@a", b"a@b", b"p" * 30 + b"@", b"p" * 31 + b"@", b"p" * 62 + b"@", b"*" * 63, b"*", b"/", b"a b"):
         yield case(7, begin(b""), HERE, prop(0), *closing(1), strings=name + b"\0")
-    for name in (b"#", b"?", b"#?", b"#address-cells", b"ibm,ppc-interrupt-server#s", b"64-bit", b"?" * 31, b"+._-"):
+    for name in (b"#", b"?", b"#?", b"#address-cells", b"ibm,ppc-interrupt-server#s", b"64-bit", b"?" * 31, b"#" * 63, b"+._-"):
         yield case(0, *root(prop(0)), strings=name + b"\0")
+    yield case(0, *root(prop(0)), strings=b"ibm,processor-radix-AP-encodings\0")
 
 
 def property_name_offsets():
@@ -368,8 +373,8 @@ def property_name_offsets():
     structure, _ = joined(root(prop(2**32 - 5)))
     yield "t", tree(structure, strings_at=START + len(structure) + 5, strings_size=len(STRINGS) - 5), refused
     # No zero byte up to the block's end.
-    long = b"p" * 31
-    for strings, offset in ((b"reg", 0), (b"name\0reg", 5), (b"r", 0), (long, 0), (long, 30), (long * 6, 0)):
+    long = b"p" * 63
+    for strings, offset in ((b"reg", 0), (b"name\0reg", 5), (b"r", 0), (long, 0), (long, 31), (long, 62), (long * 6, 0)):
         yield case(7, begin(b""), HERE, prop(offset), *closing(1), strings=strings)
     yield case(0, *root(prop(0)), strings=b"name\0reg")
     for offset in (0, 1, 2**32 - 1):
@@ -482,17 +487,19 @@ def repeated():
     yield case(0, *root(prop(b"reg"), prop(b"x-reg")))
     yield case(0, *root(prop(0), prop(2), prop(5), prop(9)), strings=b"a\0ab\0abc\0A\0")
     yield case(9, begin(b""), prop(0), prop(2), HERE, prop(5), *closing(1), strings=b"a\0ab\0a\0")
-    first, last = b"p" * 30 + b"q", b"p" * 31
-    yield case(0, *root(prop(0), prop(32)), strings=first + b"\0" + last + b"\0")
-    yield case(9, begin(b""), prop(0), HERE, prop(32), *closing(1), strings=first + b"\0" + first + b"\0")
-    yield case(0, *root(prop(0), prop(32)), strings=b"q" + last[1:] + b"\0" + last + b"\0")
+    for length in (31, 32, 63):
+        first, last = b"p" * (length - 1) + b"q", b"p" * length
+        second = prop(length + 1)
+        yield case(0, *root(prop(0), second), strings=first + b"\0" + last + b"\0")
+        yield case(9, begin(b""), prop(0), HERE, second, *closing(1), strings=first + b"\0" + first + b"\0")
+        yield case(0, *root(prop(0), second), strings=b"q" + last[1:] + b"\0" + last + b"\0")
     # The same value does not matter, nor that the values differ.
     yield case(9, begin(b""), prop(b"reg", b"abcd"), HERE, prop(b"reg", b"abcd"), *closing(1))
-    # Many: each has its own offset, in a string of 31 characters; the last one is the first, the thirtieth.
-    many = [prop(offset) for offset in range(31)]
-    strings = b"p" * 31 + b"\0"
+    # Many: each has its own offset, in a string of 63 characters; then one of them again, the first and the last among them.
+    many = [prop(offset) for offset in range(63)]
+    strings = b"p" * 63 + b"\0"
     yield case(0, *root(*many), strings=strings)
-    for again in (0, 1, 15, 29, 30):
+    for again in (0, 1, 31, 61, 62):
         yield case(9, begin(b""), *many, HERE, prop(again), *closing(1), strings=strings)
     # A second node begins anew, also after one inside it.
     yield case(0, *root(reg, *node(b"n", reg, *node(b"m", reg)), *node(b"o", reg)))

@@ -1,5 +1,6 @@
 """Tries wrong models on the vectors: of the resolver on kinds `b`, `c`, `e` and `n`, of the reader of the feature record on
-kind `r`, of sizes on kinds `p` and `s`, of string lists on kind `m`. Each must change some lines.
+kind `r`, of sizes on kinds `p` and `s`, of radix encodings on kind `x`, of attributes on kind `a`, of string lists on kind
+`m`, of names on kinds `t`, `r` and `l`, each of these by itself. Each must change some lines.
 
     python3 tests/vectors/wrong_models.py
 
@@ -8,6 +9,7 @@ Standard library only, Python 3.9 or later.
 
 import itertools
 import pathlib
+import re
 import sys
 from unittest import mock
 
@@ -17,7 +19,8 @@ sys.dont_write_bytecode = True
 sys.path.insert(0, str(pathlib.Path(__file__).resolve().parent.parent))
 
 # Found by the path above.
-from model import properties, record as reader, resolver, strings  # noqa: E402
+from model import properties, record as reader, resolver, strings, tree  # noqa: E402
+from vectors import damage, lookups, trees  # noqa: E402
 from vectors.make import READER, RESOLVER  # noqa: E402
 from vectors.properties import shown, vectors as property_vectors  # noqa: E402
 from vectors.queries import answer  # noqa: E402
@@ -459,6 +462,594 @@ WRONG_SIZES = (
 )
 
 
+# Document 02, A13: radix encodings
+
+radix_encodings, sizes_refusal = properties.radix_encodings, properties.sizes_refusal
+ap_and_exponent, exponents_refusal = properties.ap_and_exponent, properties.exponents_refusal
+
+
+def ap_at_the_bottom(cell):
+    return cell % 8, cell // 8
+
+
+def ap_of_two_bits(cell):
+    return divmod(cell, 2**30)
+
+
+def ap_of_four_bits(cell):
+    return divmod(cell, 2**28)
+
+
+def ap_without_its_top_bit(cell):
+    ap, exponent = ap_and_exponent(cell)
+    return ap % 4, exponent
+
+
+def ap_in_its_place(cell):
+    """The AP is not moved down."""
+    ap, exponent = ap_and_exponent(cell)
+    return cell - exponent, exponent
+
+
+def exponent_of_30_bits(cell):
+    return ap_and_exponent(cell)[0], cell % 2**30
+
+
+def exponent_of_28_bits(cell):
+    return ap_and_exponent(cell)[0], cell % 2**28
+
+
+def exponent_of_8_bits(cell):
+    return ap_and_exponent(cell)[0], cell % 2**8
+
+
+def exponent_of_6_bits(cell):
+    return ap_and_exponent(cell)[0], cell % 2**6
+
+
+def exponent_before_ap(value):
+    number, (count, *parts) = radix_encodings(value)
+    return number, [count, *(part for at in range(0, len(parts), 2) for part in (parts[at + 1], parts[at]))]
+
+
+def ascending(row):
+    return all(one < two for one, two in zip(row, row[1:]))
+
+
+def refused_where(wrong, number=19):
+    """Radix encodings that are refused too where this holds of their cells."""
+
+    def refused(value):
+        old, table = radix_encodings(value)
+        return (number, [0] * len(table)) if old == 0 and wrong(properties.whole_cells(value)) else (old, table)
+
+    return refused
+
+
+def accepted_where(good):
+    """Radix encodings that are accepted too where this holds of the value."""
+
+    def accepted(value):
+        number, table = radix_encodings(value)
+        pairs = [ap_and_exponent(cell) for cell in properties.whole_cells(value)][: properties.MOST_SIZES]
+        if number and good(number, value, pairs):
+            return 0, [len(pairs), *properties.with_zeros([part for pair in pairs for part in pair], len(table) - 1)]
+        return number, table
+
+    return accepted
+
+
+def aps(cells):
+    return [ap_and_exponent(cell)[0] for cell in cells]
+
+
+def in_range(pairs):
+    return all(exponent <= 63 for _, exponent in pairs)
+
+
+def cells_ascend(value):
+    """The order is that of whole cells."""
+    cells = properties.whole_cells(value)
+    if radix_encodings(value)[0] == 19 and ascending(cells):
+        return accepted_where(lambda *_: in_range(map(ap_and_exponent, cells)))(value)
+    return refused_where(lambda cells: not ascending(cells))(value)
+
+
+def cells_ascend_too(value):
+    return refused_where(lambda cells: not ascending(cells))(value)
+
+
+def aps_do_not_fall(value):
+    return refused_where(lambda cells: aps(cells) != sorted(aps(cells)))(value)
+
+
+def no_ap_twice(value):
+    return refused_where(lambda cells: len(set(aps(cells))) < len(cells))(value)
+
+
+def ap_twice_is_9(value):
+    return refused_where(lambda cells: len(set(aps(cells))) < len(cells), 9)(value)
+
+
+def whole_cell_at_most_63(value):
+    return refused_where(lambda cells: max(cells) > 63, 12)(value)
+
+
+def ap_7_is_12(value):
+    """It is taken for no encoding."""
+    return refused_where(lambda cells: 7 in aps(cells), 12)(value)
+
+
+def fifteen_encodings(value):
+    return refused_where(lambda cells: len(cells) > 15, 8)(value)
+
+
+def seventeen_encodings(value):
+    return accepted_where(lambda number, value, pairs: number == 8 and len(value) == 68 and in_range(pairs))(value)
+
+
+def equal_exponents(value):
+    def good(number, _, pairs):
+        exponents = [exponent for _, exponent in pairs]
+        return number == 19 and in_range(pairs) and exponents == sorted(exponents)
+
+    return accepted_where(good)(value)
+
+
+def equal_exponents_of_other_ap(value):
+    """Only a pair that is given again, or falls, is 19."""
+    turned = [(exponent, ap) for ap, exponent in map(ap_and_exponent, properties.whole_cells(value))]
+    return accepted_where(lambda number, value, pairs: number == 19 and in_range(pairs) and ascending(turned))(value)
+
+
+def exponent_64(value):
+    return accepted_where(lambda number, value, pairs: number == 12 and {exponent for _, exponent in pairs} == {64})(value)
+
+
+def all_ones_is_gap(value):
+    """As of segment sizes."""
+    kept = [cell for cell in properties.whole_cells(value) if not properties.is_gap(cell)]
+    number = sizes_refusal(value, [ap_and_exponent(cell)[1] for cell in kept])
+    return accepted_where(lambda *_: number == 0)(value) if number != radix_encodings(value)[0] else radix_encodings(value)
+
+
+def cut_cell_ignored(value):
+    return radix_encodings(value[: len(value) - len(value) % 4])
+
+
+def no_encodings(value):
+    return accepted_where(lambda number, value, pairs: value == b"")(value)
+
+
+def most_before_length(value):
+    number, table = radix_encodings(value)
+    return 8 if len(value) > 64 else number, table
+
+
+def cells_before_most(value):
+    """12 and 19 come before 8."""
+    number, table = radix_encodings(value)
+    refusal = exponents_refusal([ap_and_exponent(cell)[1] for cell in properties.whole_cells(value)])
+    return refusal or number if number == 8 else number, table
+
+
+def all_ranges_before_order(exponents):
+    return 12 if exponents and max(exponents) > 63 else exponents_refusal(exponents)
+
+
+def count_beside_refusal(value):
+    number, (_, *parts) = radix_encodings(value)
+    return number, [len(value) // 4, *parts]
+
+
+WRONG_RADIX = (
+    ("ap_and_exponent", ap_at_the_bottom),
+    ("ap_and_exponent", ap_of_two_bits),
+    ("ap_and_exponent", ap_of_four_bits),
+    ("ap_and_exponent", ap_without_its_top_bit),
+    ("ap_and_exponent", ap_in_its_place),
+    ("ap_and_exponent", exponent_of_30_bits),
+    ("ap_and_exponent", exponent_of_28_bits),
+    ("ap_and_exponent", exponent_of_8_bits),
+    ("ap_and_exponent", exponent_of_6_bits),
+    ("radix_encodings", exponent_before_ap),
+    ("radix_encodings", cells_ascend),
+    ("radix_encodings", cells_ascend_too),
+    ("radix_encodings", aps_do_not_fall),
+    ("radix_encodings", no_ap_twice),
+    ("radix_encodings", ap_twice_is_9),
+    ("radix_encodings", whole_cell_at_most_63),
+    ("radix_encodings", ap_7_is_12),
+    ("radix_encodings", fifteen_encodings),
+    ("radix_encodings", seventeen_encodings),
+    ("radix_encodings", equal_exponents),
+    ("radix_encodings", equal_exponents_of_other_ap),
+    ("radix_encodings", exponent_64),
+    ("radix_encodings", all_ones_is_gap),
+    ("radix_encodings", cut_cell_ignored),
+    ("radix_encodings", no_encodings),
+    ("radix_encodings", most_before_length),
+    ("radix_encodings", cells_before_most),
+    ("exponents_refusal", all_ranges_before_order),
+    ("radix_encodings", count_beside_refusal),
+)
+
+
+# Document 02, A13: editions of the attributes
+
+pa_features, pa_contents, type_zero = properties.pa_features, properties.pa_contents, properties.type_zero
+
+# Where the values of an answer have the later bits, and where the bytes from 24 on.
+LATER_BITS, LATER_BYTES = slice(11, 14), slice(15, None)
+
+
+def editions(meant):
+    """Other editions, or other bytes that have a meaning in them."""
+
+    def contents(value, edition):
+        with mock.patch.object(properties, "MEANT", meant):
+            return pa_contents(value, edition)
+
+    return contents
+
+
+def edition_2_is_later(value, edition):
+    return editions({0: 24, 1: 254, 2: 254})(value, edition)
+
+
+def edition_2_is_first(value, edition):
+    return editions({0: 24, 1: 254, 2: 24})(value, edition)
+
+
+def every_other_edition_is_later(value, edition):
+    return pa_contents(value, min(edition, 1))
+
+
+def editions_in_a_byte(value, edition):
+    return pa_contents(value, edition % 2**8)
+
+
+def editions_in_two_bytes(value, edition):
+    return pa_contents(value, edition % 2**16)
+
+
+def editions_below_2_31(value, edition):
+    return pa_contents(value, edition % 2**31)
+
+
+def later_edition_refused(value, edition):
+    return editions({0: 24})(value, edition)
+
+
+def first_edition_refused(value, edition):
+    return editions({1: 254})(value, edition)
+
+
+def editions_from_1(value, edition):
+    return editions({1: 24, 2: 254})(value, edition)
+
+
+def editions_swapped(value, edition):
+    return editions({0: 254, 1: 24})(value, edition)
+
+
+def always_first(value, edition):
+    return editions({0: 24, 1: 24})(value, edition)
+
+
+def always_later(value, edition):
+    return editions({0: 254, 1: 254})(value, edition)
+
+
+def only_229_bytes(value, edition):
+    return editions({0: 24, 1: 253})(value, edition)
+
+
+def up_to_byte_65(value, edition):
+    return editions({0: 24, 1: 66})(value, edition)
+
+
+def byte_24_in_first_edition(value, edition):
+    return editions({0: 25, 1: 254})(value, edition)
+
+
+def no_bytes_before_edition(value, edition):
+    return pa_contents(value, edition) if value else (11, b"")
+
+
+def value_before_edition(value, edition):
+    number, _ = type_zero(value)
+    return (number, b"") if number else pa_contents(value, edition)
+
+
+def descriptors_before_edition(value, edition):
+    """11 and 12 before 15, and 15 before 10 and 9."""
+    number, _ = type_zero(value)
+    return (number, b"") if number in (11, 12) else pa_contents(value, edition)
+
+
+def types_before_edition(value, edition):
+    number, _ = type_zero(value)
+    return (number, b"") if number in (9, 10) else pa_contents(value, edition)
+
+
+def with_values(value, edition, **changes):
+    """The right answer in the later edition, but for its later bits or bytes."""
+    number, values = pa_features(value, edition)
+    if number == 0 and edition == 1:
+        for name, new in changes.items():
+            values[{"bits": LATER_BITS, "later": LATER_BYTES}[name]] = new
+    return number, values
+
+
+def of_later(part):
+    """The first edition with what the later one has in this part."""
+
+    def shown_too(value, edition):
+        number, values = pa_features(value, edition)
+        if number == 0:
+            values[part] = pa_features(value, 1)[1][part]
+        return number, values
+
+    return shown_too
+
+
+def later_bits_in_first_edition(value, edition):
+    return of_later(LATER_BITS)(value, edition)
+
+
+def later_bytes_in_first_edition(value, edition):
+    return of_later(LATER_BYTES)(value, edition)
+
+
+def supplied(value, width=254):
+    return type_zero(value)[1].ljust(width, b"\0")
+
+
+def bit_of(place, mask, *others):
+    """The bit of bytes 38, 40 and 64, but of this byte it is set where a bit of the mask is; others are masked so as well."""
+
+    def other_bit(value, edition):
+        masks = {at: mask if at in (place, *others) else 0x80 for at in (38, 40, 64)}
+        return with_values(value, edition, bits=[1 if supplied(value)[at] & masks[at] else 0 for at in masks])
+
+    return other_bit
+
+
+def lowest_bit_of_byte_38(value, edition):
+    return bit_of(38, 1)(value, edition)
+
+
+def lowest_bit_of_byte_40(value, edition):
+    return bit_of(40, 1)(value, edition)
+
+
+def lowest_bit_of_byte_64(value, edition):
+    return bit_of(64, 1)(value, edition)
+
+
+def any_bit_of_byte_38(value, edition):
+    return bit_of(38, 0xFF)(value, edition)
+
+
+def any_bit_of_byte_40(value, edition):
+    return bit_of(40, 0xFF)(value, edition)
+
+
+def any_bit_of_byte_64(value, edition):
+    return bit_of(64, 0xFF)(value, edition)
+
+
+def bits_counted_from_1(value, edition):
+    """Bit 1 is the one behind the top bit."""
+    return bit_of(38, 0x40, 40, 64)(value, edition)
+
+
+def top_bit_alone(value, edition):
+    return with_values(value, edition, bits=[1 if supplied(value)[at] == 0x80 else 0 for at in (38, 40, 64)])
+
+
+def later_bits_not_in_last_byte(value, edition):
+    """A byte behind them is to be supplied too."""
+    many = len(type_zero(value)[1])
+    return with_values(value, edition, bits=[1 if supplied(value)[at] >= 0x80 and many > at + 1 else 0 for at in (38, 40, 64)])
+
+
+def later_bits_of_long_descriptors(value, edition):
+    """All three bytes are to be supplied."""
+    many = len(type_zero(value)[1])
+    return with_values(value, edition, bits=[1 if supplied(value)[at] >= 0x80 and many > 64 else 0 for at in (38, 40, 64)])
+
+
+def past_the_descriptor(value, edition):
+    """What stands behind the descriptor is taken for supplied."""
+    contents = type_zero(value)[1]
+    at = value.find(bytes([len(contents), 0]) + contents) + 2
+    beyond = value[at : at + 254].ljust(254, b"\0")
+    return with_values(value, edition, bits=[1 if beyond[at] >= 0x80 else 0 for at in (38, 40, 64)], later=beyond[24:])
+
+
+def later_bytes_from_23(value, edition):
+    return with_values(value, edition, later=supplied(value)[23:253])
+
+
+def later_bytes_from_25(value, edition):
+    return with_values(value, edition, later=supplied(value, 255)[25:])
+
+
+def later_bytes_backwards(value, edition):
+    return with_values(value, edition, later=supplied(value)[:23:-1])
+
+
+def later_bytes_of_the_end(value, edition):
+    """The last byte supplied stands last."""
+    return with_values(value, edition, later=type_zero(value)[1][24:].rjust(230, b"\0"))
+
+
+def ones_where_not_supplied(value, edition):
+    return with_values(value, edition, later=type_zero(value)[1][24:].ljust(230, b"\xff"))
+
+
+def told_bytes_not_raw(value, edition):
+    """Bytes 38, 40 and 64 are zero among the raw ones."""
+    raw = bytes(0 if at in (38, 40, 64) else byte for at, byte in enumerate(supplied(value)))
+    return with_values(value, edition, later=raw[24:])
+
+
+def told_bits_not_raw(value, edition):
+    """Only their top bits are."""
+    raw = bytes(byte % 128 if at in (38, 40, 64) else byte for at, byte in enumerate(supplied(value)))
+    return with_values(value, edition, later=raw[24:])
+
+
+def bits_at(*places):
+    """The bits of these bytes in place of 38, 40 and 64."""
+    return "PA_BITS", (6, 16, 18, 20, 22, *places)
+
+
+WRONG_ATTRIBUTES = (
+    ("pa_contents", edition_2_is_later),
+    ("pa_contents", edition_2_is_first),
+    ("pa_contents", every_other_edition_is_later),
+    ("pa_contents", editions_in_a_byte),
+    ("pa_contents", editions_in_two_bytes),
+    ("pa_contents", editions_below_2_31),
+    ("pa_contents", later_edition_refused),
+    ("pa_contents", first_edition_refused),
+    ("pa_contents", editions_from_1),
+    ("pa_contents", editions_swapped),
+    ("pa_contents", always_first),
+    ("pa_contents", always_later),
+    ("pa_contents", only_229_bytes),
+    ("pa_contents", up_to_byte_65),
+    ("pa_contents", byte_24_in_first_edition),
+    ("pa_contents", no_bytes_before_edition),
+    ("pa_contents", value_before_edition),
+    ("pa_contents", descriptors_before_edition),
+    ("pa_contents", types_before_edition),
+    ("pa_features", later_bits_in_first_edition),
+    ("pa_features", later_bytes_in_first_edition),
+    ("pa_features", lowest_bit_of_byte_38),
+    ("pa_features", lowest_bit_of_byte_40),
+    ("pa_features", lowest_bit_of_byte_64),
+    ("pa_features", any_bit_of_byte_38),
+    ("pa_features", any_bit_of_byte_40),
+    ("pa_features", any_bit_of_byte_64),
+    ("pa_features", bits_counted_from_1),
+    ("pa_features", top_bit_alone),
+    ("pa_features", later_bits_not_in_last_byte),
+    ("pa_features", later_bits_of_long_descriptors),
+    ("pa_features", past_the_descriptor),
+    ("pa_features", later_bytes_from_23),
+    ("pa_features", later_bytes_from_25),
+    ("pa_features", later_bytes_backwards),
+    ("pa_features", later_bytes_of_the_end),
+    ("pa_features", ones_where_not_supplied),
+    ("pa_features", told_bytes_not_raw),
+    ("pa_features", told_bits_not_raw),
+    bits_at(37, 40, 64),
+    bits_at(39, 40, 64),
+    bits_at(38, 39, 64),
+    bits_at(38, 41, 64),
+    bits_at(38, 40, 63),
+    bits_at(38, 40, 65),
+    bits_at(40, 38, 64),
+    bits_at(38, 64, 40),
+    # Counted behind the two bytes of length and type.
+    bits_at(36, 38, 62),
+)
+
+
+# Document 02, A13: names
+
+property_name, lookup = tree.property_name, tree.lookup
+
+
+def names_of(pattern):
+    """Properties whose names are of this pattern."""
+
+    def name_of(token, strings):
+        name = tree.string(strings, token.name_at)
+        return name if name is not None and re.fullmatch(pattern, name) else None
+
+    return name_of
+
+
+def property_names_to_64(token, strings):
+    return names_of(rb"[0-9A-Za-z,._+?#-]{1,64}")(token, strings)
+
+
+def property_names_to_62(token, strings):
+    return names_of(rb"[0-9A-Za-z,._+?#-]{1,62}")(token, strings)
+
+
+def property_names_to_32(token, strings):
+    return names_of(rb"[0-9A-Za-z,._+?#-]{1,32}")(token, strings)
+
+
+def property_names_to_31(token, strings):
+    """Document 01's rule."""
+    return names_of(rb"[0-9A-Za-z,._+?#-]{1,31}")(token, strings)
+
+
+def property_names_of_any_length(token, strings):
+    return names_of(rb"[0-9A-Za-z,._+?#-]+")(token, strings)
+
+
+def property_names_as_of_nodes(token, strings):
+    """The same length, and the same characters."""
+    return names_of(tree.NODE_NAME)(token, strings)
+
+
+def property_names_compared_to_31(token, strings):
+    """By their first 31 characters."""
+    name = property_name(token, strings)
+    return name and name[:31]
+
+
+def property_names_cut_to_63(token, strings):
+    """A longer one is taken for its first 63 characters."""
+    name = tree.string(strings, token.name_at)
+    return name[:63] if name and names_of(rb"[0-9A-Za-z,._+?#-]+")(token, strings) else None
+
+
+def sought_to_31(cpu_block, parent_block, strings, name):
+    """A longer name is never found."""
+    return lookup(cpu_block, parent_block, strings, name if len(name) <= 31 else b"")
+
+
+def sought_to_62(cpu_block, parent_block, strings, name):
+    return lookup(cpu_block, parent_block, strings, name if len(name) <= 62 else b"")
+
+
+def sought_cut_to_31(cpu_block, parent_block, strings, name):
+    return lookup(cpu_block, parent_block, strings, name[:31])
+
+
+def sought_cut_to_63(cpu_block, parent_block, strings, name):
+    return lookup(cpu_block, parent_block, strings, name[:63])
+
+
+# In the walk, in the reader and in the lookup, by kind.
+WRONG_NAMES = (
+    ("trl", "property_name", property_names_to_64),
+    ("trl", "property_name", property_names_to_62),
+    ("trl", "property_name", property_names_to_32),
+    ("trl", "property_name", property_names_to_31),
+    ("trl", "property_name", property_names_of_any_length),
+    ("trl", "property_name", property_names_as_of_nodes),
+    ("tl", "property_name", property_names_compared_to_31),
+    ("trl", "property_name", property_names_cut_to_63),
+    ("l", "lookup", sought_to_31),
+    ("l", "lookup", sought_to_62),
+    ("l", "lookup", sought_cut_to_31),
+    ("l", "lookup", sought_cut_to_63),
+    ("tr", "NODE_NAME", re.compile(tree.NODE_NAME.pattern.replace(b"63", b"64"), re.DOTALL)),
+    ("tr", "NODE_NAME", re.compile(tree.NODE_NAME.pattern.replace(b"63", b"62"), re.DOTALL)),
+    ("tr", "NODE_NAME", re.compile(tree.NODE_NAME.pattern.replace(b"63", b"31"), re.DOTALL)),
+)
+
+
 # The right one of string lists; its `strings_of` stands above.
 place = strings.place
 
@@ -645,9 +1236,19 @@ WRONG_STRINGS = (
 )
 
 
-def sizes_answer(kind, data):
-    number, values = properties.page_sizes(data) if kind == "p" else properties.segment_sizes(data)
+TABLES = {"p": "page_sizes", "s": "segment_sizes", "x": "radix_encodings"}
+
+
+def table_answer(kind, data):
+    if kind == "a":
+        number, values = properties.pa_features(data[4:], int.from_bytes(data[:4], "big"))
+    else:
+        number, values = getattr(properties, TABLES[kind])(data)
     return [number, *shown(kind, values)]
+
+
+# By kind; of the walk, of the reader and of the lookup.
+TREE_ANSWERS = {"t": trees.answer, "r": record_answer, "l": lookups.answer}
 
 
 def first_changed(model, answers, vectors, name, wrong):
@@ -662,22 +1263,32 @@ def first_changed(model, answers, vectors, name, wrong):
 def main():
     queries = [vector for module in RESOLVER for vector in module.vectors()]
     records = [vector for module in READER for vector in module.vectors()]
-    sizes = [vector for vector in property_vectors() if vector[0] in "ps"]
+    tables = list(property_vectors())
+    sizes, radix, attributes = ([vector for vector in tables if vector[0] in kinds] for kinds in ("ps", "x", "a"))
     lists = list(string_vectors())
+    read = {"t": [*trees.vectors(), *damage.vectors()], "r": records}
+    read["l"] = [vector for vector in lookups.vectors() if vector[0] == "l"]
     tried = [
         *[(resolver, answer, queries, *wrong) for wrong in WRONG],
         *[(reader, lambda _, data: record_answer(data), records, *wrong) for wrong in WRONG_READER],
-        *[(properties, sizes_answer, sizes, *wrong) for wrong in WRONG_SIZES],
+        *[(properties, table_answer, sizes, *wrong) for wrong in WRONG_SIZES],
+        *[(properties, table_answer, radix, *wrong) for wrong in WRONG_RADIX],
+        *[(properties, table_answer, attributes, *wrong) for wrong in WRONG_ATTRIBUTES],
+        *[(tree, lambda kind, data: TREE_ANSWERS[kind](data), read[kind], *wrong) for kinds, *wrong in WRONG_NAMES for kind in kinds],
         *[(strings, lambda _, data: string_answer(data), lists, *wrong) for wrong in WRONG_STRINGS],
     ]
     for model, answers, vectors, name, wrong in tried:
         found = first_changed(model, answers, vectors, name, wrong)
+        called = getattr(wrong, "__name__", str(wrong))
         if found is None:
-            print("the wrong model %s for %s changes no vector" % (wrong.__name__, name), file=sys.stderr)
+            print("the wrong model %s for %s changes no vector" % (called, name), file=sys.stderr)
             return 1
-        print("wrong model %s for %s: changes vector %s first" % (wrong.__name__, name, found))
-    counts = len(WRONG), len(WRONG_READER), len(WRONG_SIZES), len(WRONG_STRINGS)
-    print("%d wrong models of the resolver, %d of the reader, %d of sizes and %d of string lists, each seen" % counts)
+        print("wrong model %s for %s: changes vector %s first" % (called, name, found))
+    counts = [len(some) for some in (WRONG, WRONG_READER, WRONG_SIZES, WRONG_RADIX, WRONG_ATTRIBUTES, WRONG_NAMES, WRONG_STRINGS)]
+    print(
+        "%d wrong models of the resolver, %d of the reader, %d of sizes, %d of radix encodings, %d of attributes, %d of names and "
+        "%d of string lists, each seen" % tuple(counts)
+    )
     return 0
 
 
