@@ -8,7 +8,7 @@ use native.Mathlib.Omega.{arith}
 use lib.Dec.{leb→le}
 use lib.ListN.{length}
 use Rattle.refusal.specs.Refusal.{Outcome, answer, refuse}
-use Rattle.refusal.proofs.Checks.{Passes, passes, answered, tests}
+use Rattle.refusal.proofs.Checks.{passes, answered, tests}
 use Rattle.cells.specs.Bytes.{Each}
 use Rattle.attributes.specs.Attributes.{mostBytes, ifTypeZero, attributeChecks, attributeBytes, editionLater, knownBytes, paTable, noAttributes, paChecks, paFeatures, piTable, piFeatures}
 use Rattle.attributes.specs.Described.{Attribute, AttributeWithin, ofTypeZero, Describes}

@@ -3,13 +3,13 @@ use mathlib.Core.Path.{_≡_, refl, sym, ap, subst, _∙_}
 use mathlib.Core.List.{List}
 use Prim.Native.Nat.{ℕ, _-_}
 use native.Mathlib.Omega.{arith}
-use lib.ListN.{length, take, replicate, length-take}
+use lib.ListN.{take, replicate, length-take}
 use Rattle.cells.specs.Cells.{byteAt, cellAt, wordAt}
 use Rattle.cells.specs.Rows.{each}
 use Rattle.refusal.specs.Refusal.{Outcome, answer, refuse}
 use Rattle.refusal.specs.Checks.{firstFault}
 use Rattle.refusal.proofs.Checks.{holds-on, outcome-through}
-use Rattle.attributes.specs.Attributes.{mostBytes, firstLater, laterBytes, editionFirst, topBit, knownBytes, paTable, noAttributes, paChecks, paFeatures, attributeChecks, attributeBytes}
+use Rattle.attributes.specs.Attributes.{mostBytes, firstLater, editionFirst, topBit, knownBytes, paTable, noAttributes, paChecks, paFeatures, attributeChecks, attributeBytes}
 use Rattle.attributes.specs.declared.PaTable.{PaTable}
 use Rattle.attributes.specs.Reserved.{NothingLater}
 use Rattle.attributes.proofs.Editions.{known-first, later-none}

@@ -2,20 +2,20 @@
 -- used are those of that one. Assumes nothing.
 use mathlib.Core.Path.{_≡_, refl, sym, ap, ap₂, _∙_}
 use mathlib.Core.Bool.{Bool, true, false}
-use mathlib.Core.List.{List, [], _∷_, _++_, flatMap, append-nil}
+use mathlib.Core.List.{List, [], _∷_, _++_, flatMap}
 use Prim.Native.Nat.{ℕ, zero, suc, _+_, _<_, _≤_}
 use native.Mathlib.Omega.{arith}
 use native.Mathlib.Decide.{decLt}
 use borrow.Author.Tests.{lt-ltb, le-ltb}
 use lib.Dec.{leb→le, ltb, ltb→lt}
-use lib.ListN.{length, getD, take, drop, length-append, length-take, length-drop, take-append-drop, drop-of-length-le}
+use lib.ListN.{length, drop, length-append, length-take, length-drop, take-append-drop, drop-of-length-le}
 use lib.Seq.{getD-drop, take-append-seam, drop-append-seam, drop-drop, drop-cons}
 use Rattle.refusal.proofs.Checks.{Passes, passes-join, passes-both, tests}
 use Rattle.cells.specs.Cells.{byteAt}
 use Rattle.cells.specs.Bytes.{Each}
 use Rattle.attributes.specs.Attributes.{mostBytes, lengthAt, typeAt, bytesAt, nextAt, descriptorChecks, checksFrom, ifTypeZero, typeZeroFrom, typeZero, typeChecks, attributeChecks, firstOf, attributeBytes}
 use Rattle.attributes.specs.Described.{Attribute, attributeBytesOf, AttributeWithin, ofTypeZero, Describes}
-use Rattle.attributes.proofs.Scan.{checks-step, zeros-step, checks-end, zeros-end}
+use Rattle.attributes.proofs.Scan.{checks-step, checks-end}
 
 -- the descriptor that is read at a place, and those from there on
 abbrev attributeAt : List ℕ → ℕ → Attribute

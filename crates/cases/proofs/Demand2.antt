@@ -32,7 +32,7 @@ use Rattle.reading.proofs.Dependencies.{read-holds, read-zeroed, read-dependenc
 use Rattle.reading.proofs.Capability.{read-capability}
 use Rattle.reading.proofs.TotalSize.{same-tree-read}
 use Rattle.listing.proofs.TotalSize.{same-tree-listing, first-listing}
-use Rattle.cases.specs.Demand2.{Demand2Tree, Demand2Lookup, Demand2Sizes, Demand2Attributes, Demand2Value, Demand2Unit, Demand2}
+use Rattle.cases.specs.Demand2.{Demand2Tree, Demand2Lookup, Demand2Sizes, Demand2Radix, Demand2Pa, Demand2Pi, Demand2Value, Demand2Unit, Demand2}
 use Rattle.cases.proofs.StringLists.{of-list}
 
 of-tree : (tree : List ℕ) → Demand2Tree readRecord tree
@@ -75,20 +75,32 @@ module _ (value : List ℕ) where
       outcome-number noAttributes (paTable (knownBytes edition (attributeBytes value))) (paChecks edition value)
       ∙ next-decides _ (attributeChecks value) (omega (arith, tests))
 
-  of-attributes : Demand2Attributes value
-  unfolding piFeatures
-  of-attributes = record {
-    describedOnce = described-once value;
-    paUnknown = pa-unknown;
-    paAccepted = λ edition. pa-accepts edition value;
-    paRead = λ edition. pa-read edition value;
-    paNumber = pa-number;
-    paFirst = nothing-later value;
-    paLater = λ ds used g. pa-read editionLater value (omega arith) ds used g ∙ ap (λ (bytes : List ℕ). answer (paTable bytes)) (known-later used (λ e. omega arith));
+  of-pa : Demand2Pa paFeatures value
+  of-pa = record {
+    unknown = pa-unknown;
+    accepted = λ edition. pa-accepts edition value;
+    answered = λ edition. pa-read edition value;
+    numbered = pa-number;
+    first = nothing-later value;
+    later = λ ds used g. pa-read editionLater value (omega arith) ds used g ∙ ap (λ (bytes : List ℕ). answer (paTable bytes)) (known-later used (λ e. omega arith));
     reserved = λ edition h. pa-reserved edition h value;
-    piAccepted = pi-accepts value;
-    piRead = pi-read value;
-    piNumber = outcome-number (piTable []) (piTable (attributeBytes value)) (attributeChecks value);
+  }
+
+  of-pi : Demand2Pi piFeatures value
+  unfolding piFeatures
+  of-pi = record {
+    accepted = pi-accepts value;
+    answered = pi-read value;
+    numbered = outcome-number (piTable []) (piTable (attributeBytes value)) (attributeChecks value);
+  }
+
+  of-radix : Demand2Radix radixEncodings value
+  unfolding radixEncodings
+  of-radix = record {
+    accepted = radix-accepts value;
+    answered = radix-read value;
+    once = radix-once value;
+    numbered = outcome-number noEncodings (radixTable (map encodingOf (cellsIn value))) (sizeChecks radixSize value);
   }
 
   bus-read : length value ≡ 8 → busFrequency value ≡ answer (wordAt value 0)
@@ -100,7 +112,6 @@ module _ (value : List ℕ) where
   bus-length z = eqb→eq (length value) 8 (answered 0 (wordAt value 0) (check (eqb (length value) 8) 11 ∷ []) (omega arith, tt) z .0)
 
   of-value : Demand2Value value
-  unfolding radixEncodings
   of-value = record {
     pages = of-sizes sizeOnly;
     pagesPlain = sizes-plain sizeOnly value refl;
@@ -110,11 +121,10 @@ module _ (value : List ℕ) where
     segmentsAccepted = segments-accepts value;
     segmentsRead = λ segments. segments-read segments value;
     segmentsOnce = λ a b. segments-once a b value;
-    radixAccepted = radix-accepts value;
-    radixRead = radix-read value;
-    radixOnce = radix-once value;
-    radixNumber = outcome-number noEncodings (radixTable (map encodingOf (cellsIn value))) (sizeChecks radixSize value);
-    attributes = of-attributes;
+    radix = of-radix;
+    pa = of-pa;
+    pi = of-pi;
+    describedOnce = described-once value;
     busAccepted = (bus-length, λ e. ap (λ (o : Outcome ℕ). o .number) (bus-read e));
     busRead = bus-read;
   }

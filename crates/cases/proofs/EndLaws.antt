@@ -1,7 +1,7 @@
 -- Checks in order end with an answer or with the number of one of them, and a refusal keeps a lent buffer. Assumes nothing.
 use Prim.Native.Nat.{ℕ}
-use mathlib.Core.Path.{_≡_, refl, sym, ap, subst, _∙_}
-use mathlib.Core.Bool.{Bool, true, false, _&&_, _||_, true≢false}
+use mathlib.Core.Path.{_≡_, refl, subst, _∙_}
+use mathlib.Core.Bool.{Bool, true, false, _&&_, _||_}
 use mathlib.Core.List.{List, [], _∷_, _++_}
 use lib.Dec.{eqb}
 use Rattle.refusal.specs.Refusal.{Outcome, answer, refuse}
@@ -43,20 +43,6 @@ module _ (numbers : List ℕ) where
             (elim b as (λ _. Outcome A) [ true ↦ firstFault (refuse zeros) cs (answer value) | false ↦ refuse zeros (c .fault) ])
         go true k e = e
         go false k e = refused (c .fault) k
-
-    -- one that has no number is the answer
-    pub checks-answer : isOneOf numbers 0 ≡ false → (cs : List (Check ℕ)) → allOneOf numbers cs ≡ true
-        → firstFault (refuse zeros) cs (answer value) .number ≡ 0 → firstFault (refuse zeros) cs (answer value) ≡ answer value
-    unfolding firstFault
-    checks-answer none [] h z = refl
-    checks-answer none (c ∷ cs) h z = go (c .holds) refl (checks-answer none cs (others c cs h))
-      where
-        go : (b : Bool) → c .holds ≡ b → (firstFault (refuse zeros) cs (answer value) .number ≡ 0 → firstFault (refuse zeros) cs (answer value) ≡ answer value)
-            → firstFault (refuse zeros) (c ∷ cs) (answer value) ≡ answer value
-        go true e f = rw (e, firstFault) (f (rw (e, firstFault) at z))
-        go false e f =
-            let k : c .fault ≡ 0 = rw (e, firstFault) at z in
-            absurd (true≢false (sym (first-one c cs h) ∙ ap (isOneOf numbers) k ∙ none))
 
 -- where the same checks decide a lent buffer's later bytes
 pub checks-keep : {A : Type 0} (zeros value : A) (entry exit : List ℕ) (cs : List (Check ℕ))

@@ -3,7 +3,7 @@
 use Prim.Native.Nat.{ℕ, _≤_, _<_}
 use mathlib.Core.Path.{_≡_, refl, sym, ap, subst, _∙_}
 use mathlib.Core.Bool.{true, false, true≢false}
-use mathlib.Core.List.{List, [], _∷_, flatMap}
+use mathlib.Core.List.{List, [], _∷_, _++_, flatMap}
 use native.Mathlib.Omega.{arith}
 use lib.Dec.{eqb}
 use lib.ListN.{length, replicate, length-replicate}
@@ -14,6 +14,11 @@ use Rattle.cells.proofs.CellRows.{cells-back, cells-in-bytes}
 use Rattle.sizes.specs.declared.SizeTable.{SizeTable}
 use Rattle.sizes.specs.Sizes.{noSize, sizeOrNone, sizeTable}
 use Rattle.sizes.specs.SizeCells.{SizeCells}
+use Rattle.radix.specs.declared.RadixEncoding.{RadixEncoding}
+use Rattle.radix.specs.declared.RadixTable.{RadixTable}
+use Rattle.radix.specs.Radix.{radixTable}
+use Rattle.attributes.specs.declared.PaTable.{PaTable}
+use Rattle.attributes.specs.Attributes.{paTable, editionFirst, editionLater}
 use Rattle.positions.specs.Below.{count}
 use Rattle.positions.specs.Bits.{bit}
 use Rattle.positions.specs.Sets.{has}
@@ -38,7 +43,7 @@ use Rattle.reading.proofs.Example.{example-read, older-read, second-name-read, 
 use Rattle.reading.proofs.Dependencies.{read-holds}
 use Rattle.reading.proofs.Accepts.{read-accepts}
 use Rattle.cases.specs.Cases.{cycle, noGrants}
-use Rattle.cases.specs.Demand2.{Demand2Tree, Demand2Sizes}
+use Rattle.cases.specs.Demand2.{Demand2Tree, Demand2Sizes, Demand2Radix, Demand2Pa}
 use Rattle.cases.specs.Demand3.{IsLeftOut, Demand3Calls, Demand3, Resolver}
 use Rattle.cases.proofs.Cycles.{cycle-formed, blocked-formed, cycle-on, blocked-off}
 
@@ -115,6 +120,46 @@ module _ (read : List ℕ → Outcome SizeTable) (d : (value : List ℕ) → Dem
   pub gaps-only : read (flatMap cellBytes (noSize ∷ noSize ∷ [])) .number ≡ 0 → ⊥
   unfolding sizeOrNone
   gaps-only z = absurd (omega (arith, those (noSize ∷ noSize ∷ []) (omega arith, (omega arith, tt)) z .sized .some))
+
+-- readers of radix encodings
+module _ (read : List ℕ → Outcome RadixTable) (d : (value : List ℕ) → Demand2Radix read value) where
+  abbrev pair : ℕ → ℕ → RadixEncoding
+  pair ap exponent = record { ap = ap; exponent = exponent }
+
+  -- one that refuses those of a POWER9, whose cells do not ascend, or that answers anything else
+  pub real-encodings : let pairs = pair 0 12 ∷ pair 5 16 ∷ pair 1 21 ∷ pair 2 30 ∷ [] in
+      (read (flatMap cellBytes (0x0000000c ∷ 0xa0000010 ∷ 0x20000015 ∷ 0x4000001e ∷ [])) ≡ answer (radixTable pairs) → ⊥) → ⊥
+  real-encodings f =
+      f (d (flatMap cellBytes (0x0000000c ∷ 0xa0000010 ∷ 0x20000015 ∷ 0x4000001e ∷ [])) .answered (pair 0 12 ∷ pair 5 16 ∷ pair 1 21 ∷ pair 2 30 ∷ []) record {
+        some = omega arith;
+        few = omega arith;
+        bits = (omega arith, (omega arith, (omega arith, (omega arith, tt))));
+        low = (omega arith, (omega arith, (omega arith, (omega arith, tt))));
+        ascending = (omega arith, (omega arith, (omega arith, tt)));
+        bytes = refl;
+      })
+
+-- readers of `ibm,pa-features`
+module _ (read : ℕ → List ℕ → Outcome PaTable) (d : (value : List ℕ) → Demand2Pa read value) where
+  -- one that accepts an edition 2, and one that shows the later bits in edition 0
+  pub edition-2 : (value : List ℕ) → read 2 value .number ≡ 0 → ⊥
+  edition-2 value z = absurd (omega (arith, d value .accepted 2 .0 z .0))
+
+  pub later-shown : (value : List ℕ) → read editionFirst value .value .«copy_paste» ≡ 1 → ⊥
+  later-shown value e = absurd (omega (arith, d value .first .copyPaste))
+
+  -- one that takes the bottom bit of byte 64 for the second watchpoint
+  abbrev bottomBit : List ℕ
+  bottomBit = replicate 64 0 ++ 1 ∷ []
+
+  pub bottom-bit : read editionLater (65 ∷ 0 ∷ bottomBit) .value .«second_watchpoint» ≡ 1 → ⊥
+  unfolding paTable flatMap
+  bottom-bit e =
+      let told =
+      d (65 ∷ 0 ∷ bottomBit) .later (record { type = 0; bytes = bottomBit } ∷ []) bottomBit
+      record { within = (record { some = omega arith; few = omega arith }, tt); one = refl; bytes = refl } in
+      let z : _≡_ {A = ℕ} 0 1 = sym (ap (λ (o : Outcome PaTable). o .value .«second_watchpoint») told) ∙ e in
+      omega arith
 
 -- resolvers
 module _ (c : Resolver) (d : Demand3 c) where

@@ -20,8 +20,11 @@ use Rattle.sizes.specs.SizeCells.{SizeCells, placesIn}
 use Rattle.segments.specs.Segments.{tableOf, segmentPages}
 use Rattle.segments.specs.Encoded.{Segment, descriptorOf, Encodes}
 use Rattle.radix.specs.declared.RadixEncoding.{RadixEncoding}
+use Rattle.radix.specs.declared.RadixTable.{RadixTable}
 use Rattle.radix.specs.Radix.{radixTable, radixEncodings}
 use Rattle.radix.specs.RadixPairs.{RadixPairs}
+use Rattle.attributes.specs.declared.PaTable.{PaTable}
+use Rattle.attributes.specs.declared.PiTable.{PiTable}
 use Rattle.attributes.specs.Attributes.{attributeChecks, paTable, editionFirst, editionLater, knownBytes, noAttributes, paFeatures, piTable, piFeatures, busFrequency}
 use Rattle.attributes.specs.Described.{Attribute, Describes}
 use Rattle.attributes.specs.Reserved.{Agree, NothingLater}
@@ -104,27 +107,39 @@ pub record Demand2Sizes (rule : ℕ → Size) (read : List ℕ → Outcome SizeT
   pub once : (a b : List ℕ) → SizeCells rule a value → SizeCells rule b value → a ≡ b
   pub numbered : read value .number ≡ faultOf (sizeChecks rule value)
 
--- `ibm,pa-features` and `ibm,pi-features`: accepted exactly when the bytes are descriptors of which one has type 0, and that one's bytes are then
--- used; else the first check that does not hold refuses
-pub record Demand2Attributes (value : List ℕ) : Type 0 where
-  pub describedOnce : (a b : List Attribute) (used other : List ℕ) → Describes a used value → Describes b other value → a ≡ b
+-- (A13) radix encodings, as a call answers them: accepted exactly when the bytes are those of 1 to 16 cells, each an AP of three bits and an
+-- exponent, these within bounds and strictly ascending, and the pairs are then answered; else the first check that does not hold refuses
+pub record Demand2Radix (read : List ℕ → Outcome RadixTable) (value : List ℕ) : Type 0 where
+  pub accepted : Each IsByte value → read value .number ≡ 0 ↔ ((pairs : List RadixEncoding) × RadixPairs pairs value)
+  pub answered : (pairs : List RadixEncoding) → RadixPairs pairs value → read value ≡ answer (radixTable pairs)
+  pub once : (a b : List RadixEncoding) → RadixPairs a value → RadixPairs b value → a ≡ b
+  pub numbered : read value .number ≡ faultOf (sizeChecks radixSize value)
+
+-- the descriptors of a value and the bytes of the one of type 0
+abbrev pub Described : List ℕ → Type 0
+Described value = (ds : List Attribute) × ((used : List ℕ) × Describes ds used value)
+
+-- `ibm,pa-features`, as a call answers it in an edition: accepted exactly when the bytes are descriptors of which one has type 0, and that one's
+-- bytes are then used; else the first check that does not hold refuses
+pub record Demand2Pa (read : ℕ → List ℕ → Outcome PaTable) (value : List ℕ) : Type 0 where
   -- (A13) "15 also for an unknown edition, before all else"
-  pub paUnknown : (edition : ℕ) → editionLater < edition → paFeatures edition value ≡ refuse noAttributes 15
-  pub paAccepted : (edition : ℕ)
-      → paFeatures edition value .number ≡ 0 ↔ ((edition ≤ editionLater) × ((ds : List Attribute) × ((used : List ℕ) × Describes ds used value)))
-  pub paRead : (edition : ℕ) → edition ≤ editionLater → (ds : List Attribute) (used : List ℕ) → Describes ds used value
-      → paFeatures edition value ≡ answer (paTable (knownBytes edition used))
-  pub paNumber : (edition : ℕ) → edition ≤ editionLater → paFeatures edition value .number ≡ faultOf (attributeChecks value)
+  pub unknown : (edition : ℕ) → editionLater < edition → read edition value ≡ refuse noAttributes 15
+  pub accepted : (edition : ℕ) → read edition value .number ≡ 0 ↔ ((edition ≤ editionLater) × Described value)
+  pub answered : (edition : ℕ) → edition ≤ editionLater → (ds : List Attribute) (used : List ℕ) → Describes ds used value
+      → read edition value ≡ answer (paTable (knownBytes edition used))
+  pub numbered : (edition : ℕ) → edition ≤ editionLater → read edition value .number ≡ faultOf (attributeChecks value)
   -- (A13) "0 behaves as before": what is new is zero; in 1 every byte is read
-  pub paFirst : NothingLater (paFeatures editionFirst value .value)
-  pub paLater : (ds : List Attribute) (used : List ℕ) → Describes ds used value → paFeatures editionLater value ≡ answer (paTable used)
+  pub first : NothingLater (read editionFirst value .value)
+  pub later : (ds : List Attribute) (used : List ℕ) → Describes ds used value → read editionLater value ≡ answer (paTable used)
   -- "reserved bits and bytes from 24 are ignored", as each edition says
   pub reserved : (edition : ℕ) → edition ≤ editionLater → (other : List ℕ) (ds es : List Attribute) (used used′ : List ℕ)
-      → Describes ds used value → Describes es used′ other → Agree edition used used′ → paFeatures edition value ≡ paFeatures edition other
-  -- `ibm,pi-features` "hands on all its bytes raw"
-  pub piAccepted : piFeatures value .number ≡ 0 ↔ ((ds : List Attribute) × ((used : List ℕ) × Describes ds used value))
-  pub piRead : (ds : List Attribute) (used : List ℕ) → Describes ds used value → piFeatures value ≡ answer (piTable used)
-  pub piNumber : piFeatures value .number ≡ faultOf (attributeChecks value)
+      → Describes ds used value → Describes es used′ other → Agree edition used used′ → read edition value ≡ read edition other
+
+-- `ibm,pi-features`, which "hands on all its bytes raw"
+pub record Demand2Pi (read : List ℕ → Outcome PiTable) (value : List ℕ) : Type 0 where
+  pub accepted : read value .number ≡ 0 ↔ Described value
+  pub answered : (ds : List Attribute) (used : List ℕ) → Describes ds used value → read value ≡ answer (piTable used)
+  pub numbered : read value .number ≡ faultOf (attributeChecks value)
 
 -- "the page-size and attribute tables"
 pub record Demand2Value (value : List ℕ) : Type 0 where
@@ -139,13 +154,11 @@ pub record Demand2Value (value : List ℕ) : Type 0 where
   pub segmentsAccepted : Each IsByte value → segmentPages value .number ≡ 0 ↔ ((segments : List Segment) × Encodes segments value)
   pub segmentsRead : (segments : List Segment) → Encodes segments value → segmentPages value ≡ answer (tableOf (map descriptorOf segments))
   pub segmentsOnce : (a b : List Segment) → Encodes a value → Encodes b value → a ≡ b
-  -- (A13) `ibm,processor-radix-AP-encodings`: accepted exactly when the bytes are those of 1 to 16 cells, each an AP of three bits and an exponent
-  -- within bounds, and these pairs are then answered
-  pub radixAccepted : Each IsByte value → radixEncodings value .number ≡ 0 ↔ ((pairs : List RadixEncoding) × RadixPairs pairs value)
-  pub radixRead : (pairs : List RadixEncoding) → RadixPairs pairs value → radixEncodings value ≡ answer (radixTable pairs)
-  pub radixOnce : (a b : List RadixEncoding) → RadixPairs a value → RadixPairs b value → a ≡ b
-  pub radixNumber : radixEncodings value .number ≡ faultOf (sizeChecks radixSize value)
-  pub attributes : Demand2Attributes value
+  -- `ibm,processor-radix-AP-encodings`, `ibm,pa-features` and `ibm,pi-features`; of which descriptors a value is, it is of these alone
+  pub radix : Demand2Radix radixEncodings value
+  pub pa : Demand2Pa paFeatures value
+  pub pi : Demand2Pi piFeatures value
+  pub describedOnce : (a b : List Attribute) (used other : List ℕ) → Describes a used value → Describes b other value → a ≡ b
   -- "two cells, high first"
   pub busAccepted : busFrequency value .number ≡ 0 ↔ (length value ≡ 8)
   pub busRead : length value ≡ 8 → busFrequency value ≡ answer (wordAt value 0)

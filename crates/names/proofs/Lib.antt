@@ -1,3 +1,4 @@
 pub mod Texts
 pub mod NameLaws
 pub mod Answers
+pub mod Before

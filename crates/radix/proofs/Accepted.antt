@@ -1,6 +1,6 @@
 -- A value of `ibm,processor-radix-AP-encodings` is accepted exactly when it is the bytes of pairs within bounds; it is that of one list of pairs only,
 -- and the answer is the table of these. AP and exponent are the two parts of the cell. Assumes nothing.
-use mathlib.Core.Path.{_≡_, refl, sym, ap, ap₂, subst, _∙_}
+use mathlib.Core.Path.{_≡_, refl, sym, ap, ap₂, _∙_}
 use mathlib.Core.List.{List, [], _∷_, map, flatMap}
 use mathlib.Core.Logic.{_↔_}
 use Prim.Native.Nat.{ℕ, _%_, _<_, _≤_}
@@ -10,9 +10,8 @@ use Rattle.refusal.specs.Refusal.{Outcome, answer}
 use Rattle.cells.specs.Cells.{cellsIn}
 use Rattle.cells.specs.Bytes.{IsByte, IsCell, cellBytes, Each}
 use Rattle.cells.proofs.CellRows.{cells-back}
-use Rattle.sizes.specs.Sizes.{mostSizes, largestExponent, apBit, radixSize, exponentsIn, radixSizes}
-use Rattle.sizes.specs.SizeCells.{Ascending, SizeCells}
-use Rattle.sizes.specs.declared.SizeTable.{SizeTable}
+use Rattle.sizes.specs.Sizes.{largestExponent, apBit, radixSize, exponentsIn}
+use Rattle.sizes.specs.SizeCells.{SizeCells}
 use Rattle.sizes.proofs.Accepted.{sizes-read, sizes-accepts}
 use Rattle.radix.specs.Radix.{encodingOf, radixTable, radixEncodings}
 use Rattle.radix.specs.RadixPairs.{cellOf, RadixPairs}

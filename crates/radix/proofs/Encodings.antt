@@ -1,8 +1,7 @@
 -- A table of cells gives a table of encodings, cell by cell. Assumes nothing.
 use mathlib.Core.Path.{_≡_, refl, sym, ap, ap₂, _∙_}
 use mathlib.Core.List.{List, [], _∷_, _++_, map}
-use Prim.Native.Nat.{ℕ, zero, suc, _-_, _<_, _≤_}
-use native.Mathlib.Omega.{arith}
+use Prim.Native.Nat.{ℕ, zero, suc, _-_, _≤_}
 use lib.Dec.{leb→le}
 use lib.ListN.{length, getD, replicate, length-map, List·getD-map}
 use Rattle.cells.specs.Cells.{cellsIn}

@@ -4,7 +4,6 @@ use mathlib.Core.List.{List, map}
 use Prim.Native.Nat.{ℕ, _+_, _-_, _*_, _<_, _≤_}
 use native.Mathlib.Omega.{arith}
 use lib.ListN.{length, getD, replicate, length-map, List·getD-append}
-use Rattle.cells.specs.Rows.{padded}
 use Rattle.cells.proofs.Rows.{length-padded, padded-behind}
 use Rattle.positions.specs.declared.Position.the-variants.{At}
 use Rattle.record.specs.Record.{mostFeatures, mostDependencies, slotCount, noFeature, featureAt, slotAt}
