@@ -59,7 +59,7 @@ pub struct PaFeatures {
 #[repr(C)]
 pub struct PiTable {
     pub count: u32,
-    pub bytes: [u8; 254],
+    pub bytes: [u8; MOST_BYTES],
 }
 
 pub struct PiFeatures {
