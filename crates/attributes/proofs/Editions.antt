@@ -1,16 +1,19 @@
 -- Laws of the bytes that an edition of `ibm,pa-features` knows. Assumes nothing.
 use mathlib.Core.Path.{_≡_, refl, sym, ap, _∙_}
+use mathlib.Core.Bool.{Bool, true, false, cond}
 use mathlib.Core.List.{List, []}
 use Prim.Native.Nat.{ℕ, _-_, _<_, _≤_, min}
 use native.Mathlib.Omega.{arith}
 use native.Mathlib.Decide.{ℕ-discrete, decLt}
 use borrow.Author.Tests.{eq-eqb, ne-eqb}
+use lib.Dec.{eqb}
 use lib.ListN.{length, take, drop, replicate, length-drop, drop-of-length-le}
-use lib.Seq.{take-all}
+use lib.Seq.{take-all, take-length}
 use Rattle.cells.specs.Buffer.{written}
 use Rattle.cells.specs.Cells.{wordAt, cellAt}
 use Rattle.cells.proofs.Copying.{written-padded}
 use Rattle.attributes.specs.Attributes.{mostBytes, firstLater, laterBytes, editionFirst, knownBytes, paTable, noAttributes}
+use Rattle.attributes.specs.Parts.{knownCount}
 
 -- the later bytes, copied into zeros; and none
 pub later-copied : (bytes : List ℕ) → written (replicate (mostBytes - firstLater) 0) 0 (take (length bytes - firstLater) (drop firstLater bytes)) ≡ laterBytes bytes
@@ -29,7 +32,7 @@ unfolding paTable noAttributes laterBytes wordAt cellAt
 nothing-said = refl
 
 -- bytes in front, and as many of them as there are
-pub in-front : (n : ℕ) (bytes : List ℕ) → take (min (length bytes) n) bytes ≡ take n bytes
+in-front : (n : ℕ) (bytes : List ℕ) → take (min (length bytes) n) bytes ≡ take n bytes
 in-front n bytes = go (decLt n (length bytes))
   where
     go : Dec (n < length bytes) → take (min (length bytes) n) bytes ≡ take n bytes
@@ -47,6 +50,24 @@ module _ {edition : ℕ} (bytes : List ℕ) where
   pub known-later : (edition ≡ editionFirst → ⊥) → knownBytes edition bytes ≡ bytes
   unfolding knownBytes
   known-later e = rw (ne-eqb edition editionFirst e)
+
+-- as many of them as there are
+module _ (edition : ℕ) (bytes : List ℕ) where
+  pub known-counted : take (knownCount edition (length bytes)) bytes ≡ knownBytes edition bytes
+  unfolding knownCount
+  known-counted = go (ℕ-discrete edition editionFirst)
+    where
+      go : Dec (edition ≡ editionFirst) → take (cond (eqb edition editionFirst) (min (length bytes) firstLater) (length bytes)) bytes ≡ knownBytes edition bytes
+      go (yes e) = rw (eq-eqb edition editionFirst e) (in-front firstLater bytes ∙ sym (known-first bytes e))
+      go (no e) = rw (ne-eqb edition editionFirst e) (take-length bytes ∙ sym (known-later bytes e))
+
+  pub known-within : knownCount edition (length bytes) ≤ length bytes
+  unfolding knownCount
+  known-within = go (eqb edition editionFirst)
+    where
+      go : (b : Bool) → cond b (min (length bytes) firstLater) (length bytes) ≤ length bytes
+      go true = omega arith
+      go false = omega arith
 
 -- of no bytes, no edition knows any
 pub nothing-known : (edition : ℕ) → paTable (knownBytes edition []) ≡ noAttributes

@@ -12,7 +12,8 @@ use Rattle.refusal.specs.Refusal.{numberOf, answer, refuse}
 use Rattle.refusal.specs.declared.Refusal.{Refusal}
 use Rattle.refusal.specs.Checks.{Check, firstFault, faultOf}
 use Rattle.refusal.proofs.Checks.{Passes, holds-on, passes-on, stops, passes, Numbered, numbered-both, no-fault-passes, fault-some, fault-answers, fault-refuses, tests}
-use Rattle.attributes.specs.Attributes.{lengthAt, typeAt, bytesAt, nextAt, descriptorChecks, checksFrom, ifTypeZero, typeZeroFrom, typeZero, firstOf, typeChecks, attributeChecks, attributeBytes, mostBytes, Located}
+use Rattle.attributes.specs.Attributes.{lengthAt, typeAt, bytesAt, nextAt, descriptorChecks, checksFrom, ifTypeZero, typeZeroFrom, typeZero, firstOf, typeChecks, attributeChecks, attributeBytes, mostBytes}
+use Rattle.attributes.specs.Parts.{Located}
 
 abbrev number : ℕ → ℕ
 number n = n
@@ -171,7 +172,7 @@ module _ {value : List ℕ} {found from to at : ℕ} (g : Scan value found from 
   unfolding faultOf typeChecks
   found-two e = let n : found ≡ length (typeZero value) = all-found in sym (stops number 0 1 (typeChecks value) 0 (omega (arith, tests))) ∙ types-left
 
-  pub found-one : 0 < found → found ≤ 1 → Located value 0 from to
+  pub found-one : 0 < found → found ≤ 1 → Located (attributeChecks value) value 0 from to
   unfolding faultOf typeChecks attributeBytes
   found-one a b =
       let n : found ≡ length (typeZero value) = all-found in
@@ -185,8 +186,9 @@ module _ {value : List ℕ} {found from to at : ℕ} (g : Scan value found from 
       }
 
 -- a refusal's empty part
-pub refused-part : (value : List ℕ) (x : Refusal) {y : Refusal} {from to : ℕ} → (y ≡ x) × (from ≡ 0) × (to ≡ 0) → 0 < numberOf x → numberOf x ≡ faultOf (attributeChecks value) → Located value (numberOf y) from to
-refused-part value x {y} {from} {to} r p e =
+pub refused-part : (checks : List (Check ℕ)) (value : List ℕ) (x : Refusal) {y : Refusal} {from to : ℕ} → (y ≡ x) × (from ≡ 0) × (to ≡ 0) → 0 < numberOf x → numberOf x ≡ faultOf checks
+    → Located checks value (numberOf y) from to
+refused-part checks value x {y} {from} {to} r p e =
     let n : numberOf y ≡ numberOf x = ap numberOf (r .0) in
     record {
       fault = n ∙ e;
@@ -211,15 +213,16 @@ unfolding attributeChecks typeChecks
 numbered value = (omega arith, numbered-both (checksFrom (length value) value 0) (typeChecks value) (numbered-from (length value) value 0) (omega arith))
 
 -- the outcome of a table that is made of the bytes used, and of no bytes for a refusal
-pub located-outcome : {A : Type 0} (f : List ℕ → A) (none : A) → f [] ≡ none → {value : List ℕ} {n from to : ℕ} → Located value n from to
-    → record { number = n; value = f (take (to - from) (drop from value)) } ≡ firstFault (refuse none) (attributeChecks value) (answer (f (attributeBytes value)))
-located-outcome {A} f none e {value} {n} {from} {to} g = go (ℕ-discrete n 0)
-  where
-    go : Dec (n ≡ 0) → record { number = n; value = f (take (to - from) (drop from value)) } ≡ firstFault (refuse none) (attributeChecks value) (answer (f (attributeBytes value)))
-    go (yes z) =
-        rw (g .used z, z)
-        (sym (fault-answers (refuse none) (attributeChecks value) (answer (f (attributeBytes value))) (numbered value) (sym (g .fault) ∙ z)))
-    go (no z) =
-        let s : to - from ≡ 0 = omega (arith, g .none z) in
-        rw (s, e, g .fault)
-        (sym (fault-refuses (refuse none) (attributeChecks value) (answer (f (attributeBytes value))) (λ w. z (g .fault ∙ w))))
+module _ {A : Type 0} (f : List ℕ → A) (none : A) (e : f [] ≡ none) {checks : List (Check ℕ)} (numbers : Numbered checks) where
+  pub located-outcome : {value : List ℕ} {n from to : ℕ} → Located checks value n from to
+      → record { number = n; value = f (take (to - from) (drop from value)) } ≡ firstFault (refuse none) checks (answer (f (attributeBytes value)))
+  located-outcome {value} {n} {from} {to} g = go (ℕ-discrete n 0)
+    where
+      go : Dec (n ≡ 0) → record { number = n; value = f (take (to - from) (drop from value)) } ≡ firstFault (refuse none) checks (answer (f (attributeBytes value)))
+      go (yes z) =
+          rw (g .used z, z)
+          (sym (fault-answers (refuse none) checks (answer (f (attributeBytes value))) numbers (sym (g .fault) ∙ z)))
+      go (no z) =
+          let s : to - from ≡ 0 = omega (arith, g .none z) in
+          rw (s, e, g .fault)
+          (sym (fault-refuses (refuse none) checks (answer (f (attributeBytes value))) (λ w. z (g .fault ∙ w))))

@@ -1,13 +1,12 @@
 -- `ibm,pa-features`, `ibm,pi-features` and `ibm,extended-bus-frequency` (document 01, "CPU properties and unit text").
-use Prim.Native.Nat.{ℕ, zero, suc, _+_, _-_, _/_, _≤_}
-use mathlib.Core.Path.{_≡_}
+use Prim.Native.Nat.{ℕ, zero, suc, _+_, _-_, _/_}
 use mathlib.Core.Bool.{true, false, cond}
 use mathlib.Core.List.{List, [], _∷_, _++_}
 use lib.Dec.{leb, ltb, eqb}
 use lib.ListN.{length, take, drop, replicate}
 use Rattle.cells.specs.Cells.{byteAt, wordAt}
 use Rattle.refusal.specs.Refusal.{Outcome, numberOf, answer, refuse}
-use Rattle.refusal.specs.Checks.{Check, check, firstFault, faultOf}
+use Rattle.refusal.specs.Checks.{Check, check, firstFault}
 use Rattle.cells.specs.Rows.{each, padded}
 use Rattle.attributes.specs.declared.PaTable.{PaTable}
 use Rattle.attributes.specs.declared.PaFeatures.{PaFeatures}
@@ -79,15 +78,6 @@ firstOf (bs ∷ rest) = bs
 -- the bytes that are used
 unfoldable pub attributeBytes : List ℕ → List ℕ
 attributeBytes value = firstOf (typeZero value)
-
--- where the bytes that are used stand in the value; an empty part for a refusal
-pub record Located (value : List ℕ) (number from to : ℕ) : Type 0 where
-  pub fault : number ≡ faultOf (attributeChecks value)
-  pub ordered : from ≤ to
-  pub inside : to ≤ length value
-  pub short : to - from ≤ mostBytes
-  pub used : number ≡ 0 → take (to - from) (drop from value) ≡ attributeBytes value
-  pub none : (number ≡ 0 → ⊥) → from ≡ to
 
 -- "the top bit", 0 or 1
 abbrev pub topBit : ℕ → ℕ

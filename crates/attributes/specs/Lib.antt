@@ -1,3 +1,4 @@
 pub mod Attributes
 pub mod Described
+pub mod Parts
 pub mod Reserved

@@ -8,10 +8,11 @@ ghost use Rattle.refusal.specs.Refusal.{numberOf};
 ghost use Rattle.refusal.specs.Checks.{faultOf};
 ghost use Rattle.attributes.specs.Attributes.{
   descriptorChecks,
-  Located,
+  attributeChecks,
   laterBytes,
   paTable,
   knownBytes,
+  paChecks,
   paFeatures,
   paOutcome,
   piTable,
@@ -20,6 +21,7 @@ ghost use Rattle.attributes.specs.Attributes.{
   busFrequency,
   busOutcome,
 };
+ghost use Rattle.attributes.specs.Parts.{Located, knownCount};
 
 // The most bytes of an attribute descriptor.
 pub const MOST_BYTES: usize = 254;
@@ -113,7 +115,7 @@ fn descriptor_refusal(value: &[u8], at: usize) -> Refusal
 
 // The one descriptor of type 0.
 fn type_zero(value: &[u8]) -> TypeZero
-    ensures { λ r. ⌜ Located (now (value .entry)) (numberOf (r .refusal)) (r .from) (r .to) ⌝ }
+    ensures { λ r. ⌜ Located (attributeChecks (now (value .entry))) (now (value .entry)) (numberOf (r .refusal)) (r .from) (r .to) ⌝ }
 {
     if value.len() == 0 {
         return type_zero_refused(Refusal::PropertyForm);
@@ -199,15 +201,33 @@ fn attributes(bytes: &[u8]) -> PaTable
     }
 }
 
-// The attributes of a descriptor in an edition: in the first, of its bytes below `FIRST_LATER`.
+// How many of a descriptor's bytes an edition knows: the first, those below `FIRST_LATER`.
+fn known_count(edition: u32, count: usize) -> usize
+    ensures { λ r. ⌜ r ≡ knownCount edition count ⌝ }
+{
+    if edition == EDITION_FIRST {
+        return cells::least(count, FIRST_LATER);
+    }
+    count
+}
+
+// The attributes of a descriptor in an edition.
 fn edition_attributes(edition: u32, bytes: &[u8]) -> PaTable
     requires { ⌜ length (now bytes) ≤ 254 ⌝ }
     ensures { λ r. ⌜ r ≡ paTable (knownBytes edition (now (bytes .entry))) ⌝ }
 {
-    if edition == EDITION_FIRST {
-        return attributes(&bytes[0..cells::least(bytes.len(), FIRST_LATER)]);
+    let known = known_count(edition, bytes.len());
+    attributes(&bytes[0..known])
+}
+
+// The one descriptor of type 0, where there is such an edition.
+fn edition_type_zero(edition: u32, value: &[u8]) -> TypeZero
+    ensures { λ r. ⌜ Located (paChecks edition (now (value .entry))) (now (value .entry)) (numberOf (r .refusal)) (r .from) (r .to) ⌝ }
+{
+    if EDITION_LATER < edition {
+        return type_zero_refused(Refusal::Level);
     }
-    attributes(bytes)
+    type_zero(value)
 }
 
 // The value of `ibm,pa-features`, in an edition. Refusals: 15 for an edition other than the two; 11 for no bytes; descriptor by
@@ -215,13 +235,7 @@ fn edition_attributes(edition: u32, bytes: &[u8]) -> PaTable
 pub fn pa_features(value: &[u8], edition: u32) -> PaFeatures
     ensures { λ r. ⌜ paOutcome r ≡ paFeatures edition (now (value .entry)) ⌝ }
 {
-    if EDITION_LATER < edition {
-        return PaFeatures {
-            refusal: Refusal::Level,
-            table: attributes(&value[0..0]),
-        };
-    }
-    let found = type_zero(value);
+    let found = edition_type_zero(edition, value);
     let refusal = found.refusal;
     let from = found.from;
     let to = found.to;

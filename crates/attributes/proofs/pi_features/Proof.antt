@@ -2,7 +2,7 @@
 use mathlib.Core.Path.{refl}
 use mathlib.Core.List.{[]}
 use Rattle.attributes.specs.Attributes.{piFeatures, piTable}
-use Rattle.attributes.proofs.Scan.{located-outcome}
+use Rattle.attributes.proofs.Scan.{numbered, located-outcome}
 use borrow.Author.Needs.{needs}
 use Rattle.attributes.proofs.pi_features.Statement.{statement}
 use Rattle.attributes.proofs.pi_features.Tie as tie
@@ -24,7 +24,7 @@ raw-bytes-requires c κs = search needs
 
 returns : tie.Need-returns
 unfolding piFeatures
-returns c = rw (c .raw-bytes .ensures) (located-outcome piTable (piTable []) refl (c .before .before .type-zero .ensures))
+returns c = rw (c .raw-bytes .ensures) (located-outcome piTable (piTable []) refl (numbered _) (c .before .before .type-zero .ensures))
 
 pub pi-features-spec : {M : Type 1} → statement M
 pi-features-spec =

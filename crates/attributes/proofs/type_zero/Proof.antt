@@ -22,7 +22,7 @@ type-zero-refused-requires c κs = search needs
 
 returns : tie.Need-returns Inv-loop μ-loop
 unfolding attributeChecks
-returns c = refused-part _ PropertyForm (c .type-zero-refused .ensures) (omega arith) (stops-with 0 _ (omega (arith, tests)))
+returns c = refused-part _ _ PropertyForm (c .type-zero-refused .ensures) (omega arith) (stops-with 0 _ (omega (arith, tests)))
 
 loop-holds : tie.Need-loop-holds Inv-loop μ-loop
 loop-holds c = scan-none _ (omega arith)
@@ -38,7 +38,7 @@ type-zero-refused-requires-2 c κs = search needs
 
 returns-2 : tie.Need-returns-2 Inv-loop μ-loop
 returns-2 c =
-    refused-part _ (c .before .before .before .descriptor-refusal .result) (c .type-zero-refused2 .ensures) (omega (arith, c .before .before .number .ensures, c .before .if2 .taken))
+    refused-part _ _ (c .before .before .before .descriptor-refusal .result) (c .type-zero-refused2 .ensures) (omega (arith, c .before .before .number .ensures, c .before .if2 .taken))
     (scan-stops (c .before .before .before .before .before .loop .inv) (omega arith) (c .before .before .before .descriptor-refusal .ensures) (λ z. c .before .if2 .taken (c .before .before .number .ensures ∙ z)))
 
 add-start : tie.Need-add-start Inv-loop μ-loop
@@ -78,13 +78,13 @@ type-zero-refused-requires-3 : tie.Need-type-zero-refused-requires-3 Inv-loop μ
 type-zero-refused-requires-3 c κs = search needs
 
 returns-3 : tie.Need-returns-3 Inv-loop μ-loop
-returns-3 c = refused-part _ NotFound (c .type-zero-refused3 .ensures) (omega arith) (found-none (c .before .before .before .loop .inv) (omega arith) (omega arith))
+returns-3 c = refused-part _ _ NotFound (c .type-zero-refused3 .ensures) (omega arith) (found-none (c .before .before .before .loop .inv) (omega arith) (omega arith))
 
 type-zero-refused-requires-4 : tie.Need-type-zero-refused-requires-4 Inv-loop μ-loop
 type-zero-refused-requires-4 c κs = search needs
 
 returns-4 : tie.Need-returns-4 Inv-loop μ-loop
-returns-4 c = refused-part _ Repeated (c .type-zero-refused4 .ensures) (omega arith) (found-two (c .before .before .before .before .loop .inv) (omega arith) (omega arith))
+returns-4 c = refused-part _ _ Repeated (c .type-zero-refused4 .ensures) (omega arith) (found-two (c .before .before .before .before .loop .inv) (omega arith) (omega arith))
 
 returns-5 : tie.Need-returns-5 Inv-loop μ-loop
 returns-5 c = found-one (c .before .before .before .loop .inv) (omega arith) (omega arith) (omega arith)
