@@ -14,30 +14,30 @@ use Rattle.sizes.specs.Sizes.{largestExponent, apBit, radixSize, exponentsIn}
 use Rattle.sizes.specs.SizeCells.{SizeCells}
 use Rattle.sizes.proofs.Accepted.{sizes-read, sizes-accepts}
 use Rattle.radix.specs.Radix.{encodingOf, radixTable, radixEncodings}
-use Rattle.radix.specs.RadixPairs.{cellOf, RadixPairs}
+use Rattle.radix.specs.RadixPairs.{radixCell, RadixPairs}
 use Rattle.radix.specs.declared.RadixEncoding.{RadixEncoding}
 use Rattle.radix.specs.declared.RadixTable.{RadixTable}
 use Rattle.radix.proofs.Encodings.{outcomeIn, encodings-read, read-table}
 
 -- the parts of a cell make the cell, and a cell has the parts that it was made of
-pub parts-make : (n : ℕ) → cellOf (encodingOf n) ≡ n
+pub parts-make : (n : ℕ) → radixCell (encodingOf n) ≡ n
 parts-make n = omega arith
 
-pub made-parts : (p : RadixEncoding) → p .exponent < apBit → encodingOf (cellOf p) ≡ p
+pub made-parts : (p : RadixEncoding) → p .exponent < apBit → encodingOf (radixCell p) ≡ p
 made-parts p h =
-    let a : encodingOf (cellOf p) .ap ≡ p .ap = omega arith in
-    let e : encodingOf (cellOf p) .exponent ≡ p .exponent = omega arith in
+    let a : encodingOf (radixCell p) .ap ≡ p .ap = omega arith in
+    let e : encodingOf (radixCell p) .exponent ≡ p .exponent = omega arith in
     ap₂ (λ (m n : ℕ). record { ap = m; exponent = n }) a e
 
 -- the same of lists
-cells-made : (cells : List ℕ) → map cellOf (map encodingOf cells) ≡ cells
+cells-made : (cells : List ℕ) → map radixCell (map encodingOf cells) ≡ cells
 cells-made [] = refl
 cells-made (c ∷ cells) = ap₂ (λ (n : ℕ) (l : List ℕ). n ∷ l) (parts-make c) (cells-made cells)
 
 abbrev Low : List RadixEncoding → Type 0
 Low = Each (λ p. p .exponent ≤ largestExponent)
 
-pairs-made : (pairs : List RadixEncoding) → Low pairs → map encodingOf (map cellOf pairs) ≡ pairs
+pairs-made : (pairs : List RadixEncoding) → Low pairs → map encodingOf (map radixCell pairs) ≡ pairs
 pairs-made [] h = refl
 pairs-made (p ∷ pairs) h = ap₂ (λ (q : RadixEncoding) (l : List RadixEncoding). q ∷ l) (made-parts p (omega (arith, h .0))) (pairs-made pairs (h .1))
 
@@ -65,18 +65,18 @@ three-bits : (cells : List ℕ) → Each IsCell cells → ThreeBits (map encodin
 three-bits [] h = tt
 three-bits (c ∷ cells) h = (omega (arith, h .0), three-bits cells (h .1))
 
-are-cells : (pairs : List RadixEncoding) → ThreeBits pairs → Low pairs → Each IsCell (map cellOf pairs)
+are-cells : (pairs : List RadixEncoding) → ThreeBits pairs → Low pairs → Each IsCell (map radixCell pairs)
 are-cells [] b h = tt
 are-cells (p ∷ pairs) b h = (omega (arith, b .0, h .0), are-cells pairs (b .1) (h .1))
 
 -- pairs within bounds are cells with sizes within bounds, and the other way round
 module _ (value : List ℕ) where
-  to-cells : (pairs : List RadixEncoding) → RadixPairs pairs value → SizeCells radixSize (map cellOf pairs) value
+  to-cells : (pairs : List RadixEncoding) → RadixPairs pairs value → SizeCells radixSize (map radixCell pairs) value
   to-cells pairs g =
-      let cells : List ℕ = map cellOf pairs in
+      let cells : List ℕ = map radixCell pairs in
       let e : exponentsIn (map radixSize cells) ≡ exponents pairs = exponents-in cells ∙ ap exponents (pairs-made pairs (g .low)) in
       record {
-        few = omega (arith, length-map pairs cellOf, g .few);
+        few = omega (arith, length-map pairs radixCell, g .few);
         sized = record {
           some = omega (arith, ap length e, length-map pairs (λ (p : RadixEncoding). p .exponent), g .some);
           low = rw e (low-in pairs (g .low));
@@ -101,17 +101,17 @@ module _ (value : List ℕ) where
   -- the answer is the table of the pairs
   pub radix-read : (pairs : List RadixEncoding) → RadixPairs pairs value → radixEncodings value ≡ answer (radixTable pairs)
   radix-read pairs g =
-      let cells : List ℕ = map cellOf pairs in
+      let cells : List ℕ = map radixCell pairs in
       sym (encodings-read value)
       ∙ ap outcomeIn (sizes-read radixSize cells value (to-cells pairs g))
-      ∙ ap (λ (t : RadixTable). answer t) (read-table cells (omega (arith, length-map pairs cellOf, g .few)) ∙ ap radixTable (pairs-made pairs (g .low)))
+      ∙ ap (λ (t : RadixTable). answer t) (read-table cells (omega (arith, length-map pairs radixCell, g .few)) ∙ ap radixTable (pairs-made pairs (g .low)))
 
   -- there is one such list
   pub radix-once : (a b : List RadixEncoding) → RadixPairs a value → RadixPairs b value → a ≡ b
   radix-once a b g h = sym (from a g) ∙ from b h
     where
       from : (pairs : List RadixEncoding) → RadixPairs pairs value → map encodingOf (cellsIn value) ≡ pairs
-      from pairs k = rw (k .bytes) (ap (map encodingOf) (cells-back (map cellOf pairs)) ∙ pairs-made pairs (k .low))
+      from pairs k = rw (k .bytes) (ap (map encodingOf) (cells-back (map radixCell pairs)) ∙ pairs-made pairs (k .low))
 
   -- a value is accepted exactly when there is one
   pub radix-accepts : Each IsByte value → radixEncodings value .number ≡ 0 ↔ ((pairs : List RadixEncoding) × RadixPairs pairs value)

@@ -9,8 +9,8 @@ use Rattle.sizes.specs.SizeCells.{Ascending}
 use Rattle.radix.specs.declared.RadixEncoding.{RadixEncoding}
 
 -- "the AP field .. is the top three bits of the cell, the page exponent the other 29"
-abbrev pub cellOf : RadixEncoding → ℕ
-cellOf p = p .ap * apBit + p .exponent
+abbrev pub radixCell : RadixEncoding → ℕ
+radixCell p = p .ap * apBit + p .exponent
 
 -- "1 to 16 cells", each an AP of three bits and an exponent; "Exponents ascend strictly, at most 63"; of APs nothing more is asked
 pub record RadixPairs (pairs : List RadixEncoding) (value : List ℕ) : Type 0 where
@@ -19,4 +19,4 @@ pub record RadixPairs (pairs : List RadixEncoding) (value : List ℕ) : Type 0 w
   pub bits : Each (λ p. p .ap < 8) pairs
   pub low : Each (λ p. p .exponent ≤ largestExponent) pairs
   pub ascending : Ascending (map (λ (p : RadixEncoding). p .exponent) pairs)
-  pub bytes : value ≡ flatMap cellBytes (map cellOf pairs)
+  pub bytes : value ≡ flatMap cellBytes (map radixCell pairs)
