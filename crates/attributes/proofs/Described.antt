@@ -14,7 +14,7 @@ use Rattle.refusal.proofs.Checks.{Passes, passes-join, passes-both, tests}
 use Rattle.cells.specs.Cells.{byteAt}
 use Rattle.cells.specs.Bytes.{Each}
 use Rattle.attributes.specs.Attributes.{mostBytes, lengthAt, typeAt, bytesAt, nextAt, descriptorChecks, checksFrom, ifTypeZero, typeZeroFrom, typeZero, typeChecks, attributeChecks, firstOf, attributeBytes}
-use Rattle.attributes.specs.Described.{Attribute, attributeBytesOf, AttributeWithin, ofTypeZero, Describes}
+use Rattle.attributes.specs.Described.{Attribute, encodedAttribute, AttributeWithin, ofTypeZero, Describes}
 use Rattle.attributes.proofs.Scan.{checks-step, checks-end}
 
 -- the descriptor that is read at a place, and those from there on
@@ -31,7 +31,7 @@ only-one [] e = absurd (omega arith)
 only-one (x ∷ []) e = refl
 only-one (x ∷ (y ∷ l)) e = absurd (omega arith)
 
-some-bytes : (ds : List Attribute) (used : List ℕ) → ofTypeZero ds ≡ used ∷ [] → 0 < length (flatMap attributeBytesOf ds)
+some-bytes : (ds : List Attribute) (used : List ℕ) → ofTypeZero ds ≡ used ∷ [] → 0 < length (flatMap encodedAttribute ds)
 unfolding flatMap
 some-bytes [] used e = absurd (omega (arith, ap length e))
 some-bytes (d ∷ ds) used e = omega arith
@@ -59,11 +59,11 @@ module _ (v : List ℕ) where
   end (suc most) at h = rw (le-ltb at (length v) h, attributesFrom)
 
   -- a descriptor that stands at a place is read there, and what is behind it is the rest
-  module _ (at : ℕ) (d : Attribute) (rest : List ℕ) (e : drop at v ≡ attributeBytesOf d ++ rest) where
+  module _ (at : ℕ) (d : Attribute) (rest : List ℕ) (e : drop at v ≡ encodedAttribute d ++ rest) where
     long : length v ≡ at + 2 + length (d .bytes) + length rest
     long = omega (arith, ap length e, length-drop at v, length-append (d .bytes) rest)
 
-    at-place : (i : ℕ) → byteAt v (at + i) ≡ byteAt (attributeBytesOf d ++ rest) i
+    at-place : (i : ℕ) → byteAt v (at + i) ≡ byteAt (encodedAttribute d ++ rest) i
     at-place i = sym (getD-drop at v i 0) ∙ ap (λ (l : List ℕ). byteAt l i) e
 
     length-read : lengthAt v at ≡ length (d .bytes)
@@ -92,15 +92,15 @@ module _ (v : List ℕ) where
         (omega (arith, tests), (omega (arith, tests, w .some), (omega (arith, tests, w .few), (omega (arith, tests), tt))))
 
   -- descriptors up to the value's end are read, and no check of them fails
-  read-from : (most at : ℕ) (ds : List Attribute) → length v ≤ most + at → Each AttributeWithin ds → drop at v ≡ flatMap attributeBytesOf ds
+  read-from : (most at : ℕ) (ds : List Attribute) → length v ≤ most + at → Each AttributeWithin ds → drop at v ≡ flatMap encodedAttribute ds
       → Passes (checksFrom most v at) × (attributesFrom most v at ≡ ds)
   unfolding flatMap
   read-from most at [] f w e =
       let h : length v ≤ at = omega (arith, ap length e, length-drop at v) in
       (rw (checks-end v at h most) tt, end most at h)
-  read-from zero at (d ∷ ds) f w e = absurd (omega (arith, long at d (flatMap attributeBytesOf ds) e))
+  read-from zero at (d ∷ ds) f w e = absurd (omega (arith, long at d (flatMap encodedAttribute ds) e))
   read-from (suc most) at (d ∷ ds) f w e =
-      let rest : List ℕ = flatMap attributeBytesOf ds in
+      let rest : List ℕ = flatMap encodedAttribute ds in
       let l = long at d rest e in
       let n = length-read at d rest e in
       let h : at < length v = omega arith in
@@ -125,7 +125,7 @@ module _ (v : List ℕ) where
       few = omega (arith, size, leb→le (lengthAt v at) mostBytes (p .1 .1 .0));
     }
 
-    stands : drop at v ≡ attributeBytesOf (attributeAt v at) ++ drop (nextAt v at) v
+    stands : drop at v ≡ encodedAttribute (attributeAt v at) ++ drop (nextAt v at) v
     stands =
         let i = inside in
         let k : suc at ≡ at + 1 = omega arith in
@@ -138,7 +138,7 @@ module _ (v : List ℕ) where
         ∙ ap (λ (l : List ℕ). bytesAt v at ++ l) (drop-drop (lengthAt v at) (at + 2) v)))
 
   found-from : (most at : ℕ) → length v ≤ most + at → Passes (checksFrom most v at)
-      → Each AttributeWithin (attributesFrom most v at) × (drop at v ≡ flatMap attributeBytesOf (attributesFrom most v at))
+      → Each AttributeWithin (attributesFrom most v at) × (drop at v ≡ flatMap encodedAttribute (attributesFrom most v at))
   unfolding flatMap
   found-from zero at f p =
       let n : length v ≤ at = omega arith in
@@ -146,12 +146,12 @@ module _ (v : List ℕ) where
   found-from (suc most) at f p = go (decLt at (length v)) (found-from most (nextAt v at))
     where
       go : Dec (at < length v)
-          → (length v ≤ most + nextAt v at → Passes (checksFrom most v (nextAt v at)) → Each AttributeWithin (attributesFrom most v (nextAt v at)) × (drop (nextAt v at) v ≡ flatMap attributeBytesOf (attributesFrom most v (nextAt v at))))
-          → Each AttributeWithin (attributesFrom (suc most) v at) × (drop at v ≡ flatMap attributeBytesOf (attributesFrom (suc most) v at))
+          → (length v ≤ most + nextAt v at → Passes (checksFrom most v (nextAt v at)) → Each AttributeWithin (attributesFrom most v (nextAt v at)) × (drop (nextAt v at) v ≡ flatMap encodedAttribute (attributesFrom most v (nextAt v at))))
+          → Each AttributeWithin (attributesFrom (suc most) v at) × (drop at v ≡ flatMap encodedAttribute (attributesFrom (suc most) v at))
       go (yes h) rest =
           let c = passes-both (descriptorChecks v at) (checksFrom most v (nextAt v at)) (rw (checks-step v at most h) at p) in
           let g = rest (omega arith) (c .1) in
-          rw (more most at h) ((passes-within at h (c .0), g .0), stands at h (c .0) ∙ ap (λ (l : List ℕ). attributeBytesOf (attributeAt v at) ++ l) (g .1))
+          rw (more most at h) ((passes-within at h (c .0), g .0), stands at h (c .0) ∙ ap (λ (l : List ℕ). encodedAttribute (attributeAt v at) ++ l) (g .1))
       go (no h) rest =
           let n : length v ≤ at = omega arith in
           rw (end (suc most) at n) (tt, drop-of-length-le v n)

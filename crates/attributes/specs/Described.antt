@@ -13,8 +13,8 @@ pub record Attribute : Type 0 where
   pub bytes : List ℕ
 
 -- "length byte .., type byte, then that many bytes"
-abbrev pub attributeBytesOf : Attribute → List ℕ
-attributeBytesOf d = length (d .bytes) ∷ d .type ∷ d .bytes
+abbrev pub encodedAttribute : Attribute → List ℕ
+encodedAttribute d = length (d .bytes) ∷ d .type ∷ d .bytes
 
 -- "(1 to 254)"
 pub record AttributeWithin (d : Attribute) : Type 0 where
@@ -26,8 +26,8 @@ abbrev pub ofTypeZero : List Attribute → List (List ℕ)
 ofTypeZero [] = []
 ofTypeZero (d ∷ ds) = ifTypeZero (d .type) (d .bytes) (ofTypeZero ds)
 
--- a value is descriptors one behind the other, of which one has type 0, and these are its bytes
+-- a value is descriptors, one behind the other; one of them has type 0, and `used` are its bytes
 pub record Describes (descriptors : List Attribute) (used value : List ℕ) : Type 0 where
   pub within : Each AttributeWithin descriptors
   pub one : ofTypeZero descriptors ≡ used ∷ []
-  pub bytes : value ≡ flatMap attributeBytesOf descriptors
+  pub bytes : value ≡ flatMap encodedAttribute descriptors

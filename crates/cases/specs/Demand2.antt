@@ -154,7 +154,7 @@ pub record Demand2Value (value : List ℕ) : Type 0 where
   pub segmentsAccepted : Each IsByte value → segmentPages value .number ≡ 0 ↔ ((segments : List Segment) × Encodes segments value)
   pub segmentsRead : (segments : List Segment) → Encodes segments value → segmentPages value ≡ answer (tableOf (map descriptorOf segments))
   pub segmentsOnce : (a b : List Segment) → Encodes a value → Encodes b value → a ≡ b
-  -- `ibm,processor-radix-AP-encodings`, `ibm,pa-features` and `ibm,pi-features`; of which descriptors a value is, it is of these alone
+  -- `ibm,processor-radix-AP-encodings`, `ibm,pa-features` and `ibm,pi-features`; a value is that of one list of descriptors only
   pub radix : Demand2Radix radixEncodings value
   pub pa : Demand2Pa paFeatures value
   pub pi : Demand2Pi piFeatures value

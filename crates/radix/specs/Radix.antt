@@ -11,7 +11,7 @@ use Rattle.radix.specs.declared.RadixEncoding.{RadixEncoding}
 use Rattle.radix.specs.declared.RadixTable.{RadixTable}
 use Rattle.radix.specs.declared.RadixEncodings.{RadixEncodings}
 
--- "the AP field .. is the top three bits of the cell, the page exponent the other 29"
+-- "the AP field; in our hosts it is the top three bits of the cell, the page exponent the other 29"
 abbrev pub encodingOf : ℕ → RadixEncoding
 encodingOf n = record { ap = n / apBit; exponent = n % apBit }
 

@@ -8,7 +8,7 @@ use Rattle.sizes.specs.Sizes.{mostSizes, largestExponent, apBit}
 use Rattle.sizes.specs.SizeCells.{Ascending}
 use Rattle.radix.specs.declared.RadixEncoding.{RadixEncoding}
 
--- "the AP field .. is the top three bits of the cell, the page exponent the other 29"
+-- "the AP field; in our hosts it is the top three bits of the cell, the page exponent the other 29"
 abbrev pub radixCell : RadixEncoding → ℕ
 radixCell p = p .ap * apBit + p .exponent
 

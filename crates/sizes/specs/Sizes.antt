@@ -35,7 +35,7 @@ sizeOnly n = Exponent n
 unfoldable pub sizeOrNone : ℕ → Size
 sizeOrNone n = cond (eqb n noSize) None (Exponent n)
 
--- of radix encodings, "the AP field .. is the top three bits of the cell, the page exponent the other 29"
+-- of radix encodings, "the AP field; in our hosts it is the top three bits of the cell, the page exponent the other 29"
 abbrev pub apBit : ℕ
 apBit = 2 ^ 29
 
