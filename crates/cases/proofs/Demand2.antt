@@ -23,7 +23,9 @@ use Rattle.attributes.proofs.Accepted.{pa-read, pa-accepts, pa-reserved, pi-rea
 use Rattle.attributes.proofs.Before.{nothing-later}
 use Rattle.walk.proofs.CheckEnds.{checks-trees}
 use Rattle.walk.proofs.TotalSize.{changed-behind, more-behind}
+use Rattle.names.proofs.NameLaws.{long-property}
 use Rattle.lookup.proofs.LooksUp.{looks-up}
+use Rattle.lookup.proofs.ReturnedPart.{no-name}
 use Rattle.reading.specs.Reading.{readRecord}
 use Rattle.reading.proofs.Accepts.{read-accepts}
 use Rattle.reading.proofs.ContainerRefused.{container-refused}
@@ -53,7 +55,11 @@ of-tree tree = record {
 }
 
 of-lookup : (cpu parent strings name : List ℕ) → Demand2Lookup cpu parent strings name
-of-lookup cpu parent strings name = record { looksUp = looks-up cpu parent strings name }
+of-lookup cpu parent strings name = record {
+  looksUp = looks-up cpu parent strings name;
+  noName = no-name cpu parent strings name;
+  longName = λ h. no-name cpu parent strings name (long-property name h);
+}
 
 module _ (value : List ℕ) where
   of-sizes : (rule : ℕ → Size) → Demand2Sizes rule (sizes rule) value

@@ -2,6 +2,7 @@
 -- the definitions that the promises cite. Each request adds its field.
 use Prim.Native.Nat.{ℕ, _-_, _^_, _≤_, _<_, max}
 use mathlib.Core.Path.{_≡_}
+use mathlib.Core.Bool.{true}
 use mathlib.Core.List.{List, [], _∷_, _++_, map}
 use mathlib.Core.Logic.{_↔_}
 use lib.ListN.{length, take}
@@ -33,6 +34,9 @@ use Rattle.walk.specs.Grammar.{withoutNopTokens, Tree}
 use Rattle.walk.specs.Faults.{allTokens}
 use Rattle.walk.specs.Checked.{checkTree}
 use Rattle.walk.specs.TotalSize.{SameTree}
+use Rattle.strings.specs.Strings.{ended}
+use Rattle.names.specs.Names.{mostPropertyName, isPropertyName}
+use Rattle.lookup.specs.declared.Found.the-variants.{Nowhere as NotFound}
 use Rattle.lookup.specs.Lookup.{lookup, reason}
 use Rattle.lookup.specs.LooksUp.{LooksUp}
 use Rattle.record.specs.declared.Record.{Record}
@@ -79,6 +83,9 @@ pub record Demand2Tree (read : List ℕ → Placed Record) (tree : List ℕ) : T
 -- a property of a CPU node: where it is found, and else the reason
 pub record Demand2Lookup (cpu parent strings name : List ℕ) : Type 0 where
   pub looksUp : LooksUp cpu parent strings name (lookup cpu parent strings name) (reason cpu parent strings name)
+  -- what is no property name is not found, (A13) one of 64 characters or more in particular
+  pub noName : (isPropertyName (ended name) ≡ true → ⊥) → lookup cpu parent strings name ≡ NotFound
+  pub longName : mostPropertyName < length name → lookup cpu parent strings name ≡ NotFound
 
 -- (A3) a string in a list, as it is answered of any list and text
 pub record Demand2List (find : List ℕ → List ℕ → Outcome ℕ) (list text : List ℕ) : Type 0 where

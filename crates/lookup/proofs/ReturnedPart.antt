@@ -1,7 +1,7 @@
 -- The part that is returned: it lies in its block, and is the property of that name from its token to its value's last byte; the value
 -- in it is that property's. Assumes nothing.
 use mathlib.Core.Path.{_≡_, refl, sym, ap, subst, _∙_}
-use mathlib.Core.Bool.{Bool, true, false}
+use mathlib.Core.Bool.{Bool, true, false, true≢false}
 use mathlib.Core.List.{List, [], _∷_, _++_}
 use Prim.Native.Nat.{ℕ, zero, suc, _+_, _-_, _<_, _≤_}
 use native.Mathlib.Omega.{arith}
@@ -9,8 +9,9 @@ use native.Mathlib.Decide.{decLe}
 use lib.ListN.{length, getD, take, drop, length-take, length-drop}
 use lib.Seq.{getD-take, getD-drop, take-add, drop-at, drop-drop}
 use Rattle.cells.specs.Cells.{cellAt}
-use Rattle.strings.specs.Strings.{Text, ended}
+use Rattle.strings.specs.Strings.{Text, ended, unended}
 use Rattle.names.specs.Names.{isPropertyName, sameText}
+use Rattle.names.proofs.Texts.{same-text-true}
 use Rattle.tokens.specs.declared.Step.{Step}
 use Rattle.tokens.specs.declared.Step.the-variants.{BeginNode, EndNode, Property, Nop, End, Fault}
 use Rattle.tokens.specs.Steps.{stepAt}
@@ -29,6 +30,7 @@ pub record HeldIn (block strings : List ℕ) (h : Held) : Type 0 where
   pub size : h .to ≡ h .from + 12 + cellAt block (h .from + 4)
   pub within : h .to ≤ length block
   pub named : h .name ≡ nameIn strings (cellAt block (h .from + 8))
+  pub good : isPropertyName (h .name) ≡ true
 
 abbrev AllHeld : List ℕ → List ℕ → List Held → Type 0
 AllHeld block strings [] = Unit
@@ -39,19 +41,20 @@ AllIn block strings (properties hs) = AllHeld block strings hs
 AllIn block strings (refused n) = Unit
 
 module _ (block strings : List ℕ) where
-  all-more : (good given : Bool) (h : Held) (b : Block) → HeldIn block strings h → AllIn block strings b → AllIn block strings (checked good given h b)
+  all-more : (good given : Bool) (h : Held) (b : Block) → (good ≡ true → HeldIn block strings h) → AllIn block strings b → AllIn block strings (checked good given h b)
   all-more true true h b p q = tt
-  all-more true false h (properties hs) p q = (p, q)
+  all-more true false h (properties hs) p q = (p refl, q)
   all-more true false h (refused n) p q = tt
   all-more false given h b p q = tt
 
-  lies-held : {at t v l o : ℕ} → Lies block at t v l o → HeldIn block strings (held strings o t (v + l))
-  lies-held {t = t} {l = l} g =
+  lies-held : {at t v l o : ℕ} → Lies block at t v l o → isPropertyName (nameIn strings o) ≡ true → HeldIn block strings (held strings o t (v + l))
+  lies-held {t = t} {l = l} g good =
       record {
         token = g .token;
         size = omega (arith, g .value, g .size);
         within = omega (arith, g .value, g .within);
         named = ap (nameIn strings) (g .offset);
+        good = good;
       }
 
   all-step : (rest : List Text → ℕ → Block) (seen : List Text) (at : ℕ) → ((ns : List Text) (next : ℕ) → AllIn block strings (rest ns next))
@@ -60,7 +63,7 @@ module _ (block strings : List ℕ) where
   all-step rest seen at f (EndNode t next) e = tt
   all-step rest seen at f (Property t v l o next) e =
       let n = nameIn strings o in
-      all-more (isPropertyName n) (among n seen) (held strings o t (v + l)) (rest (seen ++ n ∷ []) (next .at)) (lies-held (lies block at e)) (f (seen ++ n ∷ []) (next .at))
+      all-more (isPropertyName n) (among n seen) (held strings o t (v + l)) (rest (seen ++ n ∷ []) (next .at)) (λ good. lies-held (lies block at e) good) (f (seen ++ n ∷ []) (next .at))
   all-step rest seen at f (Nop t next) e = f seen (next .at)
   all-step rest seen at f (End t) e = tt
   all-step rest seen at f (Fault t) e = tt
@@ -118,6 +121,11 @@ module _ (block : List ℕ) (from to : ℕ) where
       ∙ ap (take (to - (from + 12))) (drop-drop 12 from block)
 
 module _ (block strings name : List ℕ) where
+  same-name : (t : Text) → sameText t (ended name) ≡ true → t ≡ ended name
+  unfolding sameText
+  same-name (ended cs) e = ap ended (same-text-true cs name e)
+  same-name unended e = absurd (true≢false (sym e))
+
   held-part : {h : Held} → Named block strings name h → PropertyPart block strings name (h .from) (h .to)
   held-part {h} g =
       let i = g .isIn in
@@ -136,6 +144,7 @@ module _ (block strings name : List ℕ) where
         token = cell 0 (omega arith) ∙ rw zero-more (i .token);
         size = cell 4 (omega arith) ∙ size ∙ ap length (sym value);
         named = rw (cell 8 (omega arith), ← i .named) (g .same);
+        good = subst (λ (t : Text). isPropertyName t ≡ true) (same-name (h .name) (g .same)) (i .good);
         value = value;
       }
 
@@ -176,6 +185,15 @@ module _ (cpu parent strings name : List ℕ) where
 
   pub in-parent : {from to : ℕ} → lookup cpu parent strings name ≡ InParent from to → PropertyPart parent strings name from to
   in-parent e = subst Placed e placed
+
+  -- what is no property name is not found
+  pub no-name : (isPropertyName (ended name) ≡ true → ⊥) → lookup cpu parent strings name ≡ Nowhere
+  no-name h = go (lookup cpu parent strings name) refl
+    where
+      go : (f : Found) → lookup cpu parent strings name ≡ f → f ≡ Nowhere
+      go (InCpu from to) e = absurd (h (in-cpu e .good))
+      go (InParent from to) e = absurd (h (in-parent e .good))
+      go Nowhere e = refl
 
   -- the part, as the code has it
   pub cpu-part : {from to : ℕ} → lookup cpu parent strings name ≡ InCpu from to → take (to - from) (drop from cpu) ≡ partOf cpu parent (lookup cpu parent strings name)

@@ -6,7 +6,7 @@ use mathlib.Core.List.{List, [], _∷_}
 use lib.ListN.{length, take, drop}
 use Rattle.cells.specs.Cells.{cellAt}
 use Rattle.strings.specs.Strings.{ended}
-use Rattle.names.specs.Names.{sameText}
+use Rattle.names.specs.Names.{isPropertyName, sameText}
 use Rattle.properties.specs.Properties.{nameAt}
 use Rattle.lookup.specs.declared.Found.{Found}
 use Rattle.lookup.specs.declared.Found.the-variants.{InCpu, InParent, Nowhere}
@@ -17,7 +17,7 @@ abbrev pub part : List ℕ → ℕ → ℕ → List ℕ
 part block from to = take (to - from) (drop from block)
 
 -- it is the property of a name, "from its token to the value's last byte": its token, the length of its value, the place of its name, and its
--- value
+-- value; the name is as a property's is
 pub record PropertyPart (block strings name : List ℕ) (from to : ℕ) : Type 0 where
   pub head : from + 12 ≤ to
   pub within : to ≤ length block
@@ -25,6 +25,7 @@ pub record PropertyPart (block strings name : List ℕ) (from to : ℕ) : Type 0
   pub token : cellAt (part block from to) 0 ≡ 3
   pub size : cellAt (part block from to) 4 ≡ length (valueOf (part block from to))
   pub named : sameText (nameAt strings 0 (length strings) (cellAt (part block from to) 8)) (ended name) ≡ true
+  pub good : isPropertyName (ended name) ≡ true
   pub value : valueOf (part block from to) ≡ take (to - (from + 12)) (drop (from + 12) block)
 
 -- one of some properties has a name

@@ -419,3 +419,11 @@ node-name-bad s from end e = name-not-read isNodeName refl (textAt s from end) e
 pub property-name-bad : (s : List ℕ) (from end : ℕ) → propertyNameAt s from end ≡ refuse 0 7 → isPropertyName (textAt s from end) ≡ false
 unfolding propertyNameAt isPropertyName
 property-name-bad s from end e = name-not-read isPropertyName refl (textAt s from end) e
+
+-- a longer string is no property name
+pub long-property : (cs : List ℕ) → mostPropertyName < length cs → isPropertyName (ended cs) ≡ true → ⊥
+unfolding isPropertyName
+long-property cs h e =
+    let f = long-false mostPropertyName cs (every isPropertyCharacter cs) h in
+    let z : _≡_ {A = ℕ} 0 1 = cc in
+    absurd (omega arith)
