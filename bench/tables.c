@@ -17,33 +17,40 @@ struct question {
     int radix;
 };
 
-/* Plain C, each answer filled where it is. They are not put into their callers, as the library's functions are not. */
+/* Plain C, each answer filled where its caller has it (one object, returned at every end). They are not put into their callers, as the
+   library's functions are not. */
 static __attribute__((noinline, noclone)) YebkuzanPaFeatures c_pa_features(const uint8_t *value, size_t length, uint32_t edition)
 {
-    YebkuzanPaFeatures pa = { 0 };
+    YebkuzanPaFeatures pa;
     YebkuzanPaTable *t = &pa.table;
     const uint8_t *bytes = NULL;
     size_t many = 0, found = 0;
 
+    memset(&pa, 0, sizeof pa);
+    pa.number = YEBKUZAN_REFUSAL_LEVEL;
     if (edition > YEBKUZAN_EDITION_LATER)
-        return pa.number = YEBKUZAN_REFUSAL_LEVEL, pa;
+        return pa;
+    pa.number = YEBKUZAN_REFUSAL_PROPERTY_FORM;
     if (length == 0)
-        return pa.number = YEBKUZAN_REFUSAL_PROPERTY_FORM, pa;
+        return pa;
     for (size_t at = 0; at < length; at += 2 + (size_t)value[at]) {
         if (length - at < 2)
-            return pa.number = YEBKUZAN_REFUSAL_PROPERTY_FORM, pa;
-        if (value[at] == 0 || value[at] > YEBKUZAN_MOST_BYTES)
-            return pa.number = YEBKUZAN_REFUSAL_OUT_OF_RANGE, pa;
+            return pa;
+        if (value[at] == 0 || value[at] > YEBKUZAN_MOST_BYTES) {
+            pa.number = YEBKUZAN_REFUSAL_OUT_OF_RANGE;
+            return pa;
+        }
         if (length - at - 2 < value[at])
-            return pa.number = YEBKUZAN_REFUSAL_PROPERTY_FORM, pa;
+            return pa;
         if (value[at + 1] == 0) {
             found++;
             bytes = value + at + 2;
             many = value[at];
         }
     }
+    pa.number = found == 0 ? YEBKUZAN_REFUSAL_NOT_FOUND : found == 1 ? 0 : YEBKUZAN_REFUSAL_REPEATED;
     if (found != 1)
-        return pa.number = found == 0 ? YEBKUZAN_REFUSAL_NOT_FOUND : YEBKUZAN_REFUSAL_REPEATED, pa;
+        return pa;
     if (edition == YEBKUZAN_EDITION_FIRST && many > 24)
         many = 24;
 #define TOP(k) ((k) < many ? bytes[k] >> 7 : 0)
@@ -59,26 +66,26 @@ static __attribute__((noinline, noclone)) YebkuzanPaFeatures c_pa_features(const
 
 static __attribute__((noinline, noclone)) YebkuzanRadixEncodings c_radix_encodings(const uint8_t *value, size_t length)
 {
-    YebkuzanRadixEncodings r = { 0 };
-    uint32_t number = 0, least = 0;
+    YebkuzanRadixEncodings r;
+    uint32_t least = 0;
 
-    if (length == 0 || length % 4 != 0)
-        return r.number = YEBKUZAN_REFUSAL_PROPERTY_FORM, r;
-    if (length / 4 > YEBKUZAN_MOST_SIZES)
-        return r.number = YEBKUZAN_REFUSAL_TOO_MANY, r;
-    for (size_t i = 0; i < length / 4 && number == 0; i++) {
+    memset(&r, 0, sizeof r);
+    r.number = length == 0 || length % 4 != 0 ? YEBKUZAN_REFUSAL_PROPERTY_FORM : YEBKUZAN_REFUSAL_TOO_MANY;
+    if (length == 0 || length % 4 != 0 || length / 4 > YEBKUZAN_MOST_SIZES)
+        return r;
+    r.number = 0;
+    for (size_t i = 0; i < length / 4; i++) {
         const uint8_t *at = value + 4 * i;
         uint32_t cell = (uint32_t)at[0] << 24 | (uint32_t)at[1] << 16 | (uint32_t)at[2] << 8 | at[3];
         uint32_t exponent = cell & 0x1fffffff;
-        if (exponent > YEBKUZAN_LARGEST_EXPONENT)
-            number = YEBKUZAN_REFUSAL_OUT_OF_RANGE;
-        else if (exponent < least)
-            number = YEBKUZAN_REFUSAL_NOT_ASCENDING;
+        if (exponent > YEBKUZAN_LARGEST_EXPONENT || exponent < least) {
+            memset(&r, 0, sizeof r);
+            r.number = exponent > YEBKUZAN_LARGEST_EXPONENT ? YEBKUZAN_REFUSAL_OUT_OF_RANGE : YEBKUZAN_REFUSAL_NOT_ASCENDING;
+            return r;
+        }
         r.table.encodings[i] = (YebkuzanRadixEncoding){ cell >> 29, exponent };
         least = exponent + 1;
     }
-    if (number != 0)
-        return (YebkuzanRadixEncodings){ .number = number };
     r.table.count = (uint32_t)(length / 4);
     return r;
 }
