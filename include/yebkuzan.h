@@ -86,7 +86,7 @@ extern "C" {
 #define YEBKUZAN_LEVEL_SYSTEM 1u
 #define YEBKUZAN_LEVEL_HYPERVISOR 2u
 
-/* Editions of ibm,pa-features */
+/* Editions of ibm,pa-features. Newer hosts fill it past byte 23: name the later edition for those. */
 
 #define YEBKUZAN_EDITION_FIRST 0u /* bytes 0 to 23 have a meaning; those from 24 are ignored */
 #define YEBKUZAN_EDITION_LATER 1u /* bytes 24 to 253 too */
