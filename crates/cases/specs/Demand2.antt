@@ -135,7 +135,7 @@ pub record Demand2Pa (read : ℕ → List ℕ → Outcome PaTable) (value : List
   pub answered : (edition : ℕ) → edition ≤ editionLater → (ds : List Attribute) (used : List ℕ) → Describes ds used value
       → read edition value ≡ answer (paTable (knownBytes edition used))
   pub numbered : (edition : ℕ) → edition ≤ editionLater → read edition value .number ≡ faultOf (attributeChecks value)
-  -- (A13) "0 behaves as before": what is new is zero; in 1 every byte is read
+  -- (A13) "0 behaves as before": what is new is zero; in 1 the table is of all the bytes
   pub first : NothingLater (read editionFirst value .value)
   pub later : (ds : List Attribute) (used : List ℕ) → Describes ds used value → read editionLater value ≡ answer (paTable used)
   -- "reserved bits and bytes from 24 are ignored", as each edition says

@@ -17,7 +17,7 @@ abbrev pub part : List ℕ → ℕ → ℕ → List ℕ
 part block from to = take (to - from) (drop from block)
 
 -- it is the property of a name, "from its token to the value's last byte": its token, the length of its value, the place of its name, and its
--- value; the name is as a property's is
+-- value; the name is a good property name
 pub record PropertyPart (block strings name : List ℕ) (from to : ℕ) : Type 0 where
   pub head : from + 12 ≤ to
   pub within : to ≤ length block
