@@ -52,6 +52,20 @@ def cells(*numbers):
     return b"".join(number.to_bytes(4, "big") for number in numbers)
 
 
+def not_whole(above):
+    """Cells with a part of one more, which have other faults as well. `above` is a cell that is out of range."""
+    return (
+        cells(*range(17)) + b"\0",
+        cells(*[64] * 17) + b"\0",
+        cells(*range(63)) + b"\0\0\0",
+        cells(*range(16)) + b"\xff",
+        cells(above) + b"\0",
+        cells(5, 5) + b"\0\0",
+        b"\x0c",
+        b"\0\0\x0c",
+    )
+
+
 def descriptor(base, pairs, encoding=0, count=None):
     """A descriptor of segment page sizes. `pairs` are (exponent, encoding); `count` where it is to be wrong."""
     header = cells(base, encoding, len(pairs) if count is None else count)
@@ -300,16 +314,7 @@ def sizes_edges(kind):
     # The maximum comes before every cell, and the length before the maximum.
     for exponents in (range(17), range(47, 64), [64] * 17, [5] * 17, [64] + list(range(16)), range(64), [0] * 18, range(257)):
         yield kind, cells(*exponents), sizes_refused(kind, 8)
-    for value in (
-        cells(*range(17)) + b"\0",
-        cells(*[64] * 17) + b"\0",
-        cells(*range(63)) + b"\0\0\0",
-        cells(*range(16)) + b"\xff",
-        cells(64) + b"\0",
-        cells(5, 5) + b"\0\0",
-        b"\x0c",
-        b"\0\0\x0c",
-    ):
+    for value in not_whole(64):
         yield kind, value, sizes_refused(kind, 11)
 
 
@@ -505,17 +510,7 @@ def radix_edges():
     # The maximum comes before every cell, and the length before the maximum.
     for row in (range(17), range(47, 64), [64] * 17, [5] * 17, [GAP] * 17, range(64), [0xE0000040] + list(range(16)), range(257)):
         yield "x", cells(*row), radix_refused(8)
-    for value in (
-        cells(*range(17)) + b"\0",
-        cells(*[64] * 17) + b"\0",
-        cells(*range(63)) + b"\0\0\0",
-        cells(*range(16)) + b"\xff",
-        cells(0xE0000040) + b"\0",
-        cells(5, 5) + b"\0\0",
-        b"\x0c",
-        b"\0\0\x0c",
-        b"\xff" * 67,
-    ):
+    for value in (*not_whole(0xE0000040), b"\xff" * 67):
         yield "x", value, radix_refused(11)
 
 
