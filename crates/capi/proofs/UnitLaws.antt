@@ -1,21 +1,17 @@
 -- The text of a unit number has at most eight characters. Assumes nothing.
 use mathlib.Core.Path.{_≡_, sym, subst}
-use mathlib.Core.Bool.{Bool, true, false}
 use Prim.Native.Nat.{ℕ, _≤_, _<_, _^_}
 use native.Mathlib.Omega.{arith}
-use Rattle.refusal.specs.Refusal.{Outcome, answer, refuse}
-use Rattle.refusal.specs.Checks.{firstFault}
-use Rattle.unit.specs.Hex.{digitCount, fits, writeHex}
+use Rattle.refusal.specs.Refusal.{Outcome}
+use Rattle.refusal.proofs.Checks.{outcome-holds}
+use Rattle.unit.specs.Hex.{digitCount, writeChecks, writeHex}
 use Rattle.unit.specs.Unit.{writeUnit}
 use Rattle.unit.proofs.Digits.{count-least}
 
 write-short : (n room : ℕ) → n < 2 ^ 32 → writeUnit n room .value ≤ 8
-unfolding writeUnit writeHex firstFault
-write-short n room h = go (fits n 0 room)
-  where
-    go : (b : Bool) → (elim b as (λ _. Outcome ℕ) [ true ↦ answer (digitCount n) | false ↦ refuse 0 18 ]) .value ≤ 8
-    go true = count-least 7 n h
-    go false = omega arith
+unfolding writeUnit writeHex
+write-short n room h =
+    outcome-holds (λ (length : ℕ). length ≤ 8) 0 (digitCount n) (writeChecks n 0 room) (omega arith) (λ _. count-least 7 n h)
 
 -- of an answer
 pub length-short : (n room : ℕ) {o : Outcome ℕ} → n < 2 ^ 32 → o ≡ writeUnit n room → o .value ≤ 8

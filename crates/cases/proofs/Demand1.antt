@@ -5,10 +5,9 @@ use mathlib.Core.List.{List, [], _∷_}
 use native.Mathlib.Omega.{arith}
 use lib.ListN.{length}
 use Rattle.refusal.specs.Refusal.{Placed}
-use Rattle.refusal.specs.Checks.{check, firstFault}
-use Rattle.cells.specs.Buffer.{written}
-use Rattle.unit.specs.Hex.{HexNumber, someNumber, noNumber, hexNumber, hexChecks, readNumber, readHex, hexText, digitCount, fits, writeHex, afterHex}
+use Rattle.unit.specs.Hex.{HexNumber, someNumber, noNumber, hexNumber, hexChecks, readNumber, readHex, hexText, digitCount, writeChecks, writeHex, afterHex}
 use Rattle.unit.specs.Unit.{readUnit, writeUnit, afterUnit}
+use Rattle.unit.proofs.Stays.{hex-stays, unit-stays}
 use Rattle.sizes.specs.Sizes.{sizeOnly, sizeOrNone, radixSize, sizeChecks, noSizes, sizes}
 use Rattle.segments.specs.Segments.{segmentChecks, tableOf, segmentPages}
 use Rattle.radix.specs.Radix.{noEncodings, radixEncodings}
@@ -36,9 +35,11 @@ use Rattle.enabled.specs.Answers.{membersOf, enabledSet, enable}
 use Rattle.reach.specs.Answers.{reachTable, reachOf, enabledByTable, enableByTable}
 use Rattle.chain.specs.Chain.{chainIn, chainChecks, chain, afterChain}
 use Rattle.chain.specs.Slots.{slotChain, slotChecks, chainBySlots, afterChainBySlots}
+use Rattle.chain.proofs.Stays.{chain-stays, slots-stay}
 use Rattle.words.specs.Words.{noWords, words}
 use Rattle.capi.specs.Answers.{formNumber}
 use Rattle.listing.specs.Listing.{lineAt, lineChecks, writeLine, afterLine}
+use Rattle.listing.proofs.LineLaws.{line-stays}
 use Rattle.cases.specs.Ends.{Ends, answered as whole, refused, PlacedEnds, answeredAt, refusedAt, Keeps}
 use Rattle.cases.specs.Demand1.{zeroSet, zeroSeen, zeroMembers, zeroSegments, zeroBytes, Demand1Tree, Demand1Resolver, Demand1Slots, Demand1List, Demand1Value, Demand1Unit, Demand1Line, Demand1}
 use Rattle.cases.proofs.EndLaws.{checks-end, checks-keep, fault-one-of}
@@ -104,7 +105,8 @@ module _ (r : Record) (level : ℕ) (g : Grants) where
     chainEnds = λ i buffer. checks-end _ 0 _ (chainChecks r level g i (length buffer)) refl;
     chainKeeps = λ i buffer.
         let told = chainIn r (permittedSet r level g) i in
-        checks-keep 0 (length told) buffer (written buffer 0 told) (chainChecks r level g i (length buffer));
+        checks-keep 0 (length told) buffer 0 told (chainChecks r level g i (length buffer));
+    chainStays = chain-stays r level g;
   }
 
 -- slots, counts and a set
@@ -115,7 +117,8 @@ of-slots slots counts n set i buffer =
     let checks = slotChecks slots counts (min n mostFeatures) set i (length buffer) in
     record {
       slotsEnd = checks-end _ 0 (length told) checks refl;
-      slotsKeep = checks-keep 0 (length told) buffer (written buffer 0 told) checks;
+      slotsKeep = checks-keep 0 (length told) buffer 0 told checks;
+      slotsStay = slots-stay slots counts n set i buffer;
     }
 
 -- the value of a CPU node's property
@@ -151,12 +154,12 @@ module _ (text : List ℕ) (n : ℕ) (buffer : List ℕ) where
       go noNumber = refused 20 refl
 
   write-ends : (at : ℕ) → Ends (18 ∷ []) 0 (writeHex n at (length buffer))
-  unfolding writeHex
-  write-ends at = checks-end _ 0 (digitCount n) _ refl
+  unfolding writeHex writeChecks
+  write-ends at = checks-end _ 0 (digitCount n) (writeChecks n at (length buffer)) refl
 
   write-keeps : (at : ℕ) → Keeps (writeHex n at (length buffer)) buffer (afterHex n at buffer)
-  unfolding writeHex afterHex firstFault
-  write-keeps at = checks-keep 0 (digitCount n) buffer (written buffer at (hexText n)) (check (fits n at (length buffer)) 18 ∷ [])
+  unfolding writeHex afterHex
+  write-keeps at = checks-keep 0 (digitCount n) buffer at (hexText n) (writeChecks n at (length buffer))
 
   of-unit : Demand1Unit text n buffer
   unfolding readUnit writeUnit afterUnit
@@ -164,9 +167,11 @@ module _ (text : List ℕ) (n : ℕ) (buffer : List ℕ) where
     unitEnds = hex-ends _;
     writeEnds = write-ends 0;
     writeKeeps = write-keeps 0;
+    writeStays = unit-stays n buffer;
     hexEnds = hex-ends;
     hexWriteEnds = write-ends;
     hexWriteKeeps = write-keeps;
+    hexWriteStays = λ at. hex-stays n at buffer;
   }
 
 -- a line of the list
@@ -174,7 +179,8 @@ of-line : (tree : List ℕ) (k : ℕ) (buffer : List ℕ) → Demand1Line tree k
 unfolding writeLine afterLine lineChecks
 of-line tree k buffer = record {
   lineEnds = checks-end _ 0 (length (lineAt tree k)) (lineChecks tree k (length buffer)) refl;
-  lineKeeps = checks-keep 0 (length (lineAt tree k)) buffer (written buffer 0 (lineAt tree k)) (lineChecks tree k (length buffer));
+  lineKeeps = checks-keep 0 (length (lineAt tree k)) buffer 0 (lineAt tree k) (lineChecks tree k (length buffer));
+  lineStays = line-stays tree k buffer;
 }
 
 pub demand-1 : Demand1

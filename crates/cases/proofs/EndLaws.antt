@@ -7,6 +7,7 @@ use lib.Dec.{eqb}
 use Rattle.refusal.specs.Refusal.{Outcome, answer, refuse}
 use Rattle.refusal.specs.Checks.{Check, firstFault, faultOf}
 use Rattle.refusal.proofs.Checks.{fault-refuses, outcome-number}
+use Rattle.cells.specs.Buffer.{written, afterWriting}
 use Rattle.positions.proofs.BelowLaws.{and-left, and-right}
 use Rattle.cases.specs.Ends.{isOneOf, Ends, answered, refused, Keeps}
 
@@ -45,9 +46,11 @@ module _ (numbers : List ℕ) where
         go false k e = refused (c .fault) k
 
 -- where the same checks decide a lent buffer's later bytes
-pub checks-keep : {A : Type 0} (zeros value : A) (entry exit : List ℕ) (cs : List (Check ℕ))
-    → Keeps (firstFault (refuse zeros) cs (answer value)) entry (firstFault (λ (n : ℕ). entry) cs exit)
-checks-keep zeros value entry exit cs h = fault-refuses (λ (n : ℕ). entry) cs exit (λ e. h (outcome-number zeros value cs ∙ e))
+pub checks-keep : {A : Type 0} (zeros value : A) (entry : List ℕ) (at : ℕ) (new : List ℕ) (cs : List (Check ℕ))
+    → Keeps (firstFault (refuse zeros) cs (answer value)) entry (afterWriting cs entry at new)
+unfolding afterWriting
+checks-keep zeros value entry at new cs h =
+    fault-refuses (λ (n : ℕ). entry) cs (written entry at new) (λ e. h (outcome-number zeros value cs ∙ e))
 
 -- the number alone
 pub or-true : (b : Bool) → b || true ≡ true

@@ -10,7 +10,7 @@ use lib.ListN.{length, replicate}
 use Rattle.refusal.specs.Refusal.{answer, refuse}
 use Rattle.refusal.specs.Checks.{Check, firstFault}
 use Rattle.refusal.proofs.Checks.{check-same}
-use Rattle.cells.specs.Buffer.{written}
+use Rattle.cells.specs.Buffer.{written, afterWriting}
 use Rattle.positions.specs.Sets.{setWords, room, has, collect, setOf, noMembers}
 use Rattle.record.specs.declared.Record.{Record}
 use Rattle.record.specs.declared.Property.{Property}
@@ -64,7 +64,7 @@ module _ (r : Record) (level : ℕ) (g h : Grants) (a : ButAbove (r .count) g h)
 
   pub after-chain-masks : (i : ℕ) (old : List ℕ) → afterChain r level g i old ≡ afterChain r level h i old
   unfolding afterChain
-  after-chain-masks i old = λ k. firstFault (λ (n : ℕ). old) (checks-masks i (length old) k) (written old 0 (chainIn r (same-permitted k) i))
+  after-chain-masks i old = λ k. afterWriting (checks-masks i (length old) k) old 0 (chainIn r (same-permitted k) i)
 
   words-of-masks : (enabled : List ℕ) → wordsOf r level g enabled ≡ wordsOf r level h enabled
   unfolding wordsOf
@@ -140,7 +140,7 @@ module _ (property : Property) (r s : Record) (b : ButCells property r s) (free 
     chain-cells i size = told (refuse 0) (λ (c : List ℕ). answer (length c)) i size
 
     after-chain-cells : (i : ℕ) (old : List ℕ) → afterChain r level g i old ≡ afterChain s level g i old
-    unfolding afterChain
+    unfolding afterChain afterWriting
     after-chain-cells i old = told (λ (n : ℕ). old) (written old 0) i (length old)
 
   same-answers : SameAnswers r s

@@ -6,9 +6,10 @@ use mathlib.Core.Bool.{true, false, true≢false}
 use mathlib.Core.List.{List, [], _∷_, _++_, flatMap}
 use native.Mathlib.Omega.{arith}
 use lib.Dec.{eqb}
-use lib.ListN.{length, replicate, length-replicate}
-use Rattle.refusal.specs.Refusal.{Outcome, Placed, answer}
+use lib.ListN.{length, getD, replicate, length-replicate}
+use Rattle.refusal.specs.Refusal.{Outcome, Placed, answer, refuse}
 use Rattle.cells.specs.Cells.{cellsIn}
+use Rattle.cells.specs.Buffer.{Stays}
 use Rattle.cells.specs.Bytes.{IsCell, cellBytes, Each}
 use Rattle.cells.proofs.CellRows.{cells-back, cells-in-bytes}
 use Rattle.sizes.specs.declared.SizeTable.{SizeTable}
@@ -92,6 +93,20 @@ pub bit-of-none : (told : Outcome WordValues) (r : Record) (level : ℕ) (g : Gr
 bit-of-none told r level g c none on =
     let s = c .first 0 (omega arith) .0 on in
     let z : _≡_ {A = ℕ} 0 1 = cc (none (s .position) (s .feature)) in omega arith
+
+-- writers into a lent buffer
+module _ (write : ℕ → Outcome ℕ) (after : List ℕ → List ℕ) (d : (old : List ℕ) → Stays old 0 (write (length old) .value) (after old)) where
+  -- one that ends the text of 255 in a zero byte, which it does not count
+  pub ends-in-zero : write 3 ≡ answer 2 → after (1 ∷ 1 ∷ 1 ∷ []) ≡ 0x66 ∷ 0x66 ∷ 0 ∷ [] → ⊥
+  ends-in-zero e f =
+      let later : _≡_ {A = List ℕ} (0 ∷ []) (1 ∷ []) = rw (e, f) at (d (1 ∷ 1 ∷ 1 ∷ []) .later) in
+      let z : _≡_ {A = ℕ} 0 1 = ap (λ (l : List ℕ). getD l 0 0) later in omega arith
+
+  -- one that is refused and clears the buffer
+  pub clears-refused : write 1 ≡ refuse 0 18 → after (1 ∷ []) ≡ 0 ∷ [] → ⊥
+  clears-refused e f =
+      let later : _≡_ {A = List ℕ} (0 ∷ []) (1 ∷ []) = rw (e, f) at (d (1 ∷ []) .later) in
+      let z : _≡_ {A = ℕ} 0 1 = ap (λ (l : List ℕ). getD l 0 0) later in omega arith
 
 -- readers of segment sizes
 module _ (read : List ℕ → Outcome SizeTable) (d : (value : List ℕ) → Demand2Sizes sizeOrNone read value) where

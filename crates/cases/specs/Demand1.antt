@@ -7,6 +7,7 @@ use mathlib.Core.List.{List, [], _∷_}
 use mathlib.Core.Logic.{_↔_}
 use lib.ListN.{length, getD, replicate}
 use Rattle.refusal.specs.Refusal.{Outcome}
+use Rattle.cells.specs.Buffer.{Stays}
 use Rattle.names.specs.Names.{nodeNameAt, propertyNameAt}
 use Rattle.tokens.specs.Steps.{stepAt, stepNumber}
 use Rattle.tokens.specs.Tokens.{tokens}
@@ -115,11 +116,14 @@ pub record Demand1Resolver (r : Record) (level : ℕ) (g : Grants) : Type 0 wher
   -- "Order: 14, 15, 16, 17, 18", with length 0; "Lent buffers keep their bytes"
   pub chainEnds : (i : ℕ) (buffer : List ℕ) → Ends (14 ∷ 15 ∷ 16 ∷ 17 ∷ 18 ∷ []) 0 (chain r level g i (length buffer))
   pub chainKeeps : (i : ℕ) (buffer : List ℕ) → Keeps (chain r level g i (length buffer)) buffer (afterChain r level g i buffer)
+  -- (A5) "wherever a lent buffer is written, bytes past what is written stay": as many are written as the call answers
+  pub chainStays : (i : ℕ) (buffer : List ℕ) → Stays buffer 0 (chain r level g i (length buffer) .value) (afterChain r level g i buffer)
 
 -- `chain_by_slots`, of slots, counts and a set that are handed in: "16, 17, 18", and the same of a lent buffer
 pub record Demand1Slots (slots counts : List ℕ) (n : ℕ) (set : List ℕ) (i : ℕ) (buffer : List ℕ) : Type 0 where
   pub slotsEnd : Ends (16 ∷ 17 ∷ 18 ∷ []) 0 (chainBySlots slots counts n set i (length buffer))
   pub slotsKeep : Keeps (chainBySlots slots counts n set i (length buffer)) buffer (afterChainBySlots slots counts n set i buffer)
+  pub slotsStay : Stays buffer 0 (chainBySlots slots counts n set i (length buffer) .value) (afterChainBySlots slots counts n set i buffer)
 
 -- what a block of tokens is made of, with names in a strings block: `node_name` and `property_name`, `Cursor::step`, `name_refusal` and
 -- `read_properties`
@@ -181,15 +185,19 @@ pub record Demand1Unit (text : List ℕ) (n : ℕ) (buffer : List ℕ) : Type 0 
   pub unitEnds : Ends (12 ∷ 20 ∷ []) 0 (readUnit text)
   pub writeEnds : Ends (18 ∷ []) 0 (writeUnit n (length buffer))
   pub writeKeeps : Keeps (writeUnit n (length buffer)) buffer (afterUnit n buffer)
+  -- (A5) "Here, and wherever a lent buffer is written, bytes past what is written stay."
+  pub writeStays : Stays buffer 0 (writeUnit n (length buffer) .value) (afterUnit n buffer)
   -- `read_hex` and `write_hex`: up to a largest number, and from a place on
   pub hexEnds : (largest : ℕ) → Ends (12 ∷ 20 ∷ []) 0 (readHex largest text)
   pub hexWriteEnds : (at : ℕ) → Ends (18 ∷ []) 0 (writeHex n at (length buffer))
   pub hexWriteKeeps : (at : ℕ) → Keeps (writeHex n at (length buffer)) buffer (afterHex n at buffer)
+  pub hexWriteStays : (at : ℕ) → Stays buffer at (writeHex n at (length buffer) .value) (afterHex n at buffer)
 
 -- `write_line`: 16 for a line past the last, then 18
 pub record Demand1Line (tree : List ℕ) (k : ℕ) (buffer : List ℕ) : Type 0 where
   pub lineEnds : Ends (16 ∷ 18 ∷ []) 0 (writeLine tree k (length buffer))
   pub lineKeeps : Keeps (writeLine tree k (length buffer)) buffer (afterLine tree k buffer)
+  pub lineStays : Stays buffer 0 (writeLine tree k (length buffer) .value) (afterLine tree k buffer)
 
 -- all of it, for "bytes and numbers of all kinds, from anyone"
 pub record Demand1 : Type 0 where

@@ -4,5 +4,6 @@ pub mod Copying
 pub mod Rows
 pub mod Lists
 pub mod Standing
+pub mod Writing
 pub mod Bytes
 pub mod CellRows

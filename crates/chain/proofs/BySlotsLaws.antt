@@ -9,7 +9,7 @@ use lib.Dec.{eqb}
 use lib.ListN.{length, getD}
 use Rattle.refusal.specs.Refusal.{answer, refuse}
 use Rattle.refusal.specs.Checks.{firstFault}
-use Rattle.cells.specs.Buffer.{written}
+use Rattle.cells.specs.Buffer.{written, afterWriting}
 use Rattle.positions.specs.Below.{some}
 use Rattle.positions.specs.Sets.{setWords, room, has, common}
 use Rattle.positions.proofs.BelowLaws.{and-right}
@@ -95,11 +95,11 @@ module _ (slots counts : List ℕ) (asked : ℕ) {n : ℕ} (most : n ≡ min ask
           ∙ ap (λ (m : ℕ). firstFault (refuse 0) (slotChecks slots counts m p i (length old)) (answer (length (slotChain slots counts m p i)))) most
 
       bytes : new ≡ afterChainBySlots slots counts asked p i old
-      unfolding afterChainBySlots
+      unfolding afterChainBySlots afterWriting
       bytes =
           tells .bytes (numberWithin slots counts n) (slotOf slots) shows
           ∙ ends-alike (λ (k : ℕ). old) (written old 0) (length old)
-          ∙ ap (λ (m : ℕ). firstFault (λ (k : ℕ). old) (slotChecks slots counts m p i (length old)) (written old 0 (slotChain slots counts m p i))) most
+          ∙ ap (λ (m : ℕ). afterWriting (slotChecks slots counts m p i (length old)) old 0 (slotChain slots counts m p i)) most
 
       pub slots-tell : (chainOutcome t ≡ chainBySlots slots counts asked p i (length old)) × (new ≡ afterChainBySlots slots counts asked p i old)
       slots-tell = (outcome, bytes)

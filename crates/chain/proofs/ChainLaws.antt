@@ -7,6 +7,7 @@ use lib.ListN.{length}
 use Rattle.refusal.specs.Refusal.{Outcome, refuse}
 use Rattle.refusal.specs.Checks.{faultOf}
 use Rattle.refusal.proofs.Checks.{fault-some, fault-none}
+use Rattle.cells.specs.Buffer.{afterWriting}
 use Rattle.record.specs.declared.Record.{Record}
 use Rattle.record.specs.Record.{mostFeatures}
 use Rattle.permitted.specs.declared.Grants.{Grants}
@@ -33,7 +34,7 @@ module _ (r : Record) (level : ℕ) (g : Grants) {o : Outcome Seen} (e : o ≡ e
     asked-outcome i size = ap (λ (k : ℕ). refuse 0 k) number ∙ sym (fault-some (refuse 0) (askedChecks r level) _ _ (λ z. ne (number ∙ z)))
 
     pub asked-bytes : (i : ℕ) (old : List ℕ) → old ≡ afterChain r level g i old
-    unfolding afterChain chainChecks
+    unfolding afterChain afterWriting chainChecks
     asked-bytes i old = sym (fault-some (λ (m : ℕ). old) (askedChecks r level) _ _ (λ z. ne (number ∙ z)))
 
   -- neither does: the table of the record's dependencies
@@ -59,7 +60,7 @@ module _ (r : Record) (level : ℕ) (g : Grants) {o : Outcome Seen} (e : o ≡ e
             ∙ rw all (sym (fault-none (refuse 0) (askedChecks r level) _ _ (numbered r level) (sym number ∙ none)))
 
         pub chain-bytes : new ≡ afterChain r level g i old
-        unfolding afterChain chainChecks chainIn graphChecks
+        unfolding afterChain afterWriting chainChecks chainIn graphChecks
         chain-bytes =
             told .bytes (dependenciesIn r) (dependencyIn r) shows
             ∙ rw all (sym (fault-none (λ (m : ℕ). old) (askedChecks r level) _ _ (numbered r level) (sym number ∙ none)))

@@ -10,3 +10,4 @@ pub mod Answers
 pub mod PositionLaws
 pub mod BoundedLaws
 pub mod BySlotsLaws
+pub mod Stays

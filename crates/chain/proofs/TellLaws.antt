@@ -10,6 +10,7 @@ use lib.ListN.{length}
 use Rattle.refusal.specs.Refusal.{answer, refuse}
 use Rattle.refusal.proofs.Checks.{Stops, Passes, stops, passes}
 use Rattle.cells.specs.Buffer.{written}
+use Rattle.cells.proofs.Writing.{refused-leaves, passed-writes}
 use Rattle.positions.specs.Sets.{room, has}
 use Rattle.record.specs.Record.{mostFeatures}
 use Rattle.tables.specs.Tables.{rowAt}
@@ -28,7 +29,7 @@ pub tells-past : {table p old : List ℕ} {n i : ℕ} {t : ChainTold} → n ≤ 
 unfolding graphChecks
 tells-past {n = n} {i} h e = record {
   outcome = λ num dep shows. e ∙ sym (stops (refuse 0) 0 0 _ _ (le→nltb i n h));
-  bytes = λ num dep shows. sym (stops (λ (m : ℕ). _) 0 0 _ _ (le→nltb i n h));
+  bytes = λ num dep shows. sym (refused-leaves _ _ _ _ 0 (le→nltb i n h));
 }
 
 all-below : (m n : ℕ) (xs : List ℕ) → m ≤ n → AllBelow m xs → AllBelow n xs
@@ -72,7 +73,7 @@ module _ {table p : List ℕ} {n i : ℕ} {l : Layers} (few : n ≤ mostFeatures
     unfolding graphChecks
     tells-enabled e q = record {
       outcome = λ num dep shows. q ∙ sym (stops (refuse 0) 0 1 _ _ (stop num dep shows));
-      bytes = λ num dep shows. sym (stops (λ (m : ℕ). old) 0 1 _ _ (stop num dep shows));
+      bytes = λ num dep shows. sym (refused-leaves _ _ _ _ 1 (stop num dep shows));
     }
       where
         stop : (num : ℕ → ℕ) (dep : ℕ → ℕ → ℕ) → Shows num dep n (rowAt table) → Stops 1 (graphChecks num dep n p i (length old))
@@ -82,7 +83,7 @@ module _ {table p : List ℕ} {n i : ℕ} {l : Layers} (few : n ≤ mostFeatures
     unfolding graphChecks
     tells-short e h q = record {
       outcome = λ num dep shows. q ∙ sym (stops (refuse 0) 0 2 _ _ (stop num dep shows));
-      bytes = λ num dep shows. sym (stops (λ (m : ℕ). old) 0 2 _ _ (stop num dep shows));
+      bytes = λ num dep shows. sym (refused-leaves _ _ _ _ 2 (stop num dep shows));
     }
       where
         stop : (num : ℕ → ℕ) (dep : ℕ → ℕ → ℕ) → Shows num dep n (rowAt table) → Stops 2 (graphChecks num dep n p i (length old))
@@ -95,7 +96,7 @@ module _ {table p : List ℕ} {n i : ℕ} {l : Layers} (few : n ≤ mostFeatures
     unfolding graphChecks
     tells-chain e h w q = record {
       outcome = λ num dep shows. q ∙ ap (λ (m : ℕ). answer m) (length-is num dep shows e) ∙ sym (passes (refuse 0) _ _ (pass num dep shows));
-      bytes = λ num dep shows. w ∙ ap (written old 0) (chain-is num dep shows e) ∙ sym (passes (λ (m : ℕ). old) _ _ (pass num dep shows));
+      bytes = λ num dep shows. w ∙ ap (written old 0) (chain-is num dep shows e) ∙ sym (passed-writes _ _ _ _ (pass num dep shows));
     }
       where
         pass : (num : ℕ → ℕ) (dep : ℕ → ℕ → ℕ) → Shows num dep n (rowAt table) → Passes (graphChecks num dep n p i (length old))

@@ -9,7 +9,8 @@ use lib.ListN.{length}
 use Rattle.refusal.specs.Refusal.{answer, refuse}
 use Rattle.refusal.specs.Checks.{firstFault}
 use Rattle.refusal.proofs.Checks.{Passes, passes}
-use Rattle.cells.specs.Buffer.{written}
+use Rattle.cells.specs.Buffer.{written, afterWriting}
+use Rattle.cells.proofs.Writing.{passed-writes}
 use Rattle.positions.specs.Sets.{room, has}
 use Rattle.record.specs.declared.Record.{Record}
 use Rattle.record.specs.Record.{mostFeatures}
@@ -92,7 +93,7 @@ module _ (r : Record) (good : wellFormed r ≡ true) (permitted : List ℕ) (i :
 
     pub told-slots-bytes : (old : List ℕ) → r .count ≤ length old
         → afterChainBySlots (r .slots) counts (r .count) permitted i old ≡ written old 0 (chainIn r permitted i)
-    unfolding afterChainBySlots
+    unfolding afterChainBySlots afterWriting
     told-slots-bytes old = slots-told (λ (n : ℕ). old) (written old 0) (length old)
 
 -- the call for such a position, at a level under grants, with a buffer of at least as many bytes as there are features
@@ -113,4 +114,4 @@ module _ (r : Record) (level : ℕ) (g : Grants) (i : ℕ) (good : wellFormed r 
   -- the chain stands in front of what the buffer held
   pub told-bytes : (old : List ℕ) → r .count ≤ length old → afterChain r level g i old ≡ written old 0 (chainIn r (permittedSet r level g) i)
   unfolding afterChain
-  told-bytes old h = passes (λ (n : ℕ). old) _ _ (all-hold (length old) h)
+  told-bytes old h = passed-writes _ _ _ _ (all-hold (length old) h)

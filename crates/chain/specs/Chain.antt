@@ -6,7 +6,7 @@ use lib.Dec.{leb, ltb}
 use lib.ListN.{length}
 use Rattle.refusal.specs.Refusal.{Outcome, answer, refuse, numberOf}
 use Rattle.refusal.specs.Checks.{Check, check, firstFault}
-use Rattle.cells.specs.Buffer.{written}
+use Rattle.cells.specs.Buffer.{afterWriting}
 use Rattle.positions.specs.Sets.{room, has}
 use Rattle.record.specs.declared.Record.{Record}
 use Rattle.permitted.specs.declared.Grants.{Grants}
@@ -42,7 +42,7 @@ chain r level g i size = firstFault (refuse 0) (chainChecks r level g i size) (a
 -- "one byte a position, later bytes of the buffer unchanged"; "Lent buffers keep their bytes" where it is refused
 unfoldable pub afterChain : Record → ℕ → Grants → ℕ → List ℕ → List ℕ
 afterChain r level g i old =
-    firstFault (λ (n : ℕ). old) (chainChecks r level g i (length old)) (written old 0 (chainIn r (permittedSet r level g) i))
+    afterWriting (chainChecks r level g i (length old)) old 0 (chainIn r (permittedSet r level g) i)
 
 abbrev pub chainOutcome : ChainTold → Outcome ℕ
 chainOutcome t = record { number = numberOf (t .refusal); value = t .length }

@@ -6,7 +6,7 @@ use mathlib.Core.List.{List, [], _∷_}
 use lib.ListN.{length, getD}
 use Rattle.refusal.specs.Refusal.{answer, refuse}
 use Rattle.refusal.specs.Checks.{Check, firstFault}
-use Rattle.cells.specs.Buffer.{written}
+use Rattle.cells.specs.Buffer.{afterWriting}
 use Rattle.positions.specs.declared.Position.{Position}
 use Rattle.positions.specs.declared.Position.the-variants.{Nowhere, At}
 use Rattle.positions.specs.declared.Set.{Set}
@@ -79,4 +79,4 @@ pub record Tells (table : List ℕ) (n : ℕ) (permitted : List ℕ) (i : ℕ) (
   pub outcome : (num : ℕ → ℕ) (dep : ℕ → ℕ → ℕ) → Shows num dep n (rowAt table)
       → chainOutcome t ≡ firstFault (refuse 0) (graphChecks num dep n permitted i (length old)) (answer (length (shortestChain num dep (has permitted) room n i)))
   pub bytes : (num : ℕ → ℕ) (dep : ℕ → ℕ → ℕ) → Shows num dep n (rowAt table)
-      → new ≡ firstFault (λ (m : ℕ). old) (graphChecks num dep n permitted i (length old)) (written old 0 (shortestChain num dep (has permitted) room n i))
+      → new ≡ afterWriting (graphChecks num dep n permitted i (length old)) old 0 (shortestChain num dep (has permitted) room n i)

@@ -4,7 +4,7 @@ use mathlib.Core.List.{List}
 use lib.ListN.{length}
 use Rattle.refusal.specs.Refusal.{Outcome, answer, refuse}
 use Rattle.refusal.specs.Checks.{Check, firstFault}
-use Rattle.cells.specs.Buffer.{written}
+use Rattle.cells.specs.Buffer.{afterWriting}
 use Rattle.positions.specs.Sets.{room}
 use Rattle.record.specs.Record.{mostFeatures}
 use Rattle.tables.specs.Slots.{slotNumber, slotOf}
@@ -33,5 +33,5 @@ chainBySlots slots counts n permitted i size =
 -- "one byte a position, later bytes of the buffer unchanged"; "Lent buffers keep their bytes" where it is refused
 unfoldable pub afterChainBySlots : List ℕ → List ℕ → ℕ → List ℕ → ℕ → List ℕ → List ℕ
 afterChainBySlots slots counts n permitted i old =
-    firstFault (λ (k : ℕ). old) (slotChecks slots counts (min n mostFeatures) permitted i (length old))
-    (written old 0 (slotChain slots counts (min n mostFeatures) permitted i))
+    afterWriting (slotChecks slots counts (min n mostFeatures) permitted i (length old)) old 0
+    (slotChain slots counts (min n mostFeatures) permitted i)

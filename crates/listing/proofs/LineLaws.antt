@@ -1,21 +1,18 @@
 -- The lines of a tree, by their number. Assumes nothing.
 use mathlib.Core.Path.{_≡_, refl, sym, ap, ap₂, subst, _∙_}
-use mathlib.Core.Bool.{Bool, true, false}
 use mathlib.Core.List.{List, [], _∷_, _++_}
 use Prim.Native.Nat.{ℕ, zero, suc, _+_, _-_, _<_, _≤_}
 use native.Mathlib.Nat.{zero-add}
 use native.Mathlib.Omega.{arith}
 use lib.Arith.{lt→nleb, le→nltb}
-use borrow.Author.Tests.{leb-true}
-use lib.Dec.{leb, ltb, le→leb, lt→ltb}
+use lib.Dec.{le→leb, lt→ltb, leb→le}
 use lib.ListN.{length, getD, take, drop, length-append, List·getD-append}
 use lib.Seq.{getD-at, take-at}
 use Rattle.refusal.specs.Refusal.{Outcome, Placed, answer, refuse, numberOf}
-use Rattle.refusal.specs.Checks.{check, firstFault}
-use Rattle.refusal.proofs.Checks.{Stops, Passes, stops, passes}
-use Rattle.cells.specs.Buffer.{written}
+use Rattle.refusal.proofs.Checks.{Stops, Passes, stops, passes, outcome-holds}
+use Rattle.cells.specs.Buffer.{Stays, written}
 use Rattle.cells.specs.Rows.{each}
-use Rattle.cells.proofs.Buffer.{length-written}
+use Rattle.cells.proofs.Writing.{refused-leaves, passed-writes, front-fits, call-stays}
 use Rattle.cells.proofs.Rows.{length-each, row-at}
 use Rattle.characters.specs.Characters.{bytes}
 use Rattle.positions.specs.Sets.{memberCount}
@@ -171,8 +168,7 @@ module _ {tree : List ℕ} {k : ℕ} {blank line : List ℕ} {n : ℕ} (c : Comp
       go : {l : List ℕ} {m : ℕ} → Composed tree k blank l m → m ≡ 0 → Ends 16 0 out
       go (none h) e = (
         sym (stops (refuse 0) 0 0 _ _ (le→nltb k (length (listing tree)) h)),
-        sym
-            (stops (λ (x : ℕ). out) 0 0 _ _ (le→nltb k (length (listing tree)) h)),
+        sym (refused-leaves _ _ _ _ 0 (le→nltb k (length (listing tree)) h)),
       )
       go (some h l w) e = absurd (omega arith)
 
@@ -185,7 +181,7 @@ module _ {tree : List ℕ} {k : ℕ} {blank line : List ℕ} {n : ℕ} (c : Comp
       go (some h l w) f q =
           let room : Stops 1 (lineChecks tree k (length out))
           = (lt→ltb k (length (listing tree)) h, lt→nleb (length (lineAt tree k)) (length out) (omega (arith, w .reached))) in
-          (sym (stops (refuse 0) 0 1 _ _ room), sym (stops (λ (x : ℕ). out) 0 1 _ _ room))
+          (sym (stops (refuse 0) 0 1 _ _ room), sym (refused-leaves _ _ _ _ 1 room))
 
   pub write-all : {new : List ℕ} {last : ℕ} → (n ≡ 0 → ⊥) → n ≤ length out → Put out 0 (take n line) new last → Ends 0 n new
   unfolding writeLine afterLine lineChecks written
@@ -202,34 +198,25 @@ module _ {tree : List ℕ} {k : ℕ} {blank line : List ℕ} {n : ℕ} (c : Comp
           let room : Passes (lineChecks tree k (length out))
           = (lt→ltb k (length (listing tree)) h, (le→leb (length (lineAt tree k)) (length out) (omega (arith, w .reached)), tt)) in (
             ap answer (w .reached ∙ zero-add (length (lineAt tree k))) ∙ sym (passes (refuse 0) _ _ room),
-            v .stands ∙ ap (written out 0) (front w) ∙ sym (passes (λ (x : ℕ). out) _ _ room),
+            v .stands ∙ ap (written out 0) (front w) ∙ sym (passed-writes _ _ _ _ room),
           )
 
 -- no more bytes are written than there are
 written-fits : (tree : List ℕ) (k room : ℕ) → writeLine tree k room .value ≤ room
-unfolding writeLine lineChecks firstFault
-written-fits tree k room = go (ltb k (length (listing tree))) (leb (length (lineAt tree k)) room) refl
-  where
-    go : (a b : Bool) → leb (length (lineAt tree k)) room ≡ b
-        → firstFault (refuse 0) (check a 16 ∷ check b 18 ∷ []) (answer (length (lineAt tree k))) .value ≤ room
-    go true true e = leb-true (length (lineAt tree k)) room e
-    go true false e = omega arith
-    go false b e = omega arith
+unfolding writeLine lineChecks
+written-fits tree k room =
+    outcome-holds (λ (n : ℕ). n ≤ room) 0 (length (lineAt tree k)) (lineChecks tree k room) (omega arith)
+    (λ p. leb→le (length (lineAt tree k)) room (p .1 .0))
 
--- the buffer keeps its length
-after-size : (tree : List ℕ) (k : ℕ) (old : List ℕ) → length (afterLine tree k old) ≡ length old
-unfolding afterLine lineChecks firstFault
-after-size tree k old = go (ltb k (length (listing tree))) (leb (length (lineAt tree k)) (length old)) refl
-  where
-    go : (a b : Bool) → leb (length (lineAt tree k)) (length old) ≡ b
-        → length (firstFault (λ (n : ℕ). old) (check a 16 ∷ check b 18 ∷ []) (written old 0 (lineAt tree k))) ≡ length old
-    go true true e = let h = leb-true (length (lineAt tree k)) (length old) e in length-written old 0 (lineAt tree k) (omega arith)
-    go true false e = refl
-    go false b e = refl
+-- bytes past a line stay
+pub line-stays : (tree : List ℕ) (k : ℕ) (old : List ℕ) → Stays old 0 (writeLine tree k (length old) .value) (afterLine tree k old)
+unfolding writeLine afterLine lineChecks
+line-stays tree k old =
+    call-stays old 0 (lineAt tree k) (lineChecks tree k (length old)) (λ p. front-fits (lineAt tree k) (length old) (p .1 .0))
 
--- so that the bytes written are a part of it
+-- so that the bytes written are a part of the buffer
 pub length-fits : (tree : List ℕ) (k : ℕ) (old : List ℕ) (w : LineWritten) {new : List ℕ}
     → lineOutcome w ≡ writeLine tree k (length old) → new ≡ afterLine tree k old
     → w .length ≤ length new
 length-fits tree k old w q e =
-    omega (arith, written-fits tree k (length old), after-size tree k old, ap (λ (o : Outcome ℕ). o .value) q, ap length e)
+    omega (arith, written-fits tree k (length old), line-stays tree k old .size, ap (λ (o : Outcome ℕ). o .value) q, ap length e)

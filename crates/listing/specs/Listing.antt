@@ -8,7 +8,7 @@ use lib.ListN.{length, getD}
 use Rattle.characters.specs.Characters.{bytes}
 use Rattle.refusal.specs.Refusal.{Outcome, answer, refuse, numberOf}
 use Rattle.refusal.specs.Checks.{Check, check, firstFault}
-use Rattle.cells.specs.Buffer.{written}
+use Rattle.cells.specs.Buffer.{afterWriting}
 use Rattle.cells.specs.Rows.{each}
 use Rattle.strings.specs.Strings.{Text, ended, unended}
 use Rattle.names.specs.Names.{mostNodeName}
@@ -133,7 +133,7 @@ writeLine tree k room = firstFault (refuse 0) (lineChecks tree k room) (answer (
 
 -- the buffer afterwards; "Lent buffers keep their bytes" where it is refused
 unfoldable pub afterLine : List ℕ → ℕ → List ℕ → List ℕ
-afterLine tree k old = firstFault (λ (n : ℕ). old) (lineChecks tree k (length old)) (written old 0 (lineAt tree k))
+afterLine tree k old = afterWriting (lineChecks tree k (length old)) old 0 (lineAt tree k)
 
 -- what an answer says: the number of document 01, and the length
 abbrev pub lineOutcome : LineWritten → Outcome ℕ

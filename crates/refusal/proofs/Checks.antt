@@ -195,6 +195,16 @@ module _ {A B : Type 0} (f : A → B) (none value : A) (none′ value′ : B) wh
       go true h more = rw (h, firstFault) (more (λ p. e (rw h tt, p)))
       go false h more = rw (h, firstFault, z)
 
+-- what holds of the zeros, and of the value where all checks hold, holds of an outcome's value
+pub outcome-holds : {A : Type 0} (P : A → Type 0) (none value : A) (cs : List (Check ℕ)) → P none → (Passes cs → P value)
+    → P (firstFault (refuse none) cs (answer value) .value)
+outcome-holds P none value cs z v = go (either-way (refuse none) cs (answer value))
+  where
+    go : ((firstFault (refuse none) cs (answer value) ≡ answer value) × Passes cs) ⊎ ((n : ℕ) × (firstFault (refuse none) cs (answer value) ≡ refuse none n))
+        → P (firstFault (refuse none) cs (answer value) .value)
+    go (inl h) = rw (h .0) (v (h .1))
+    go (inr h) = rw (h .1) z
+
 -- an outcome that is an answer passed all of its checks
 pub answered : {A : Type 0} (none value : A) (cs : List (Check ℕ)) → Numbered cs → firstFault (refuse none) cs (answer value) .number ≡ 0 → Passes cs
 answered none value cs n e = no-fault-passes cs n (sym (outcome-number none value cs) ∙ e)

@@ -4,15 +4,17 @@ use mathlib.Core.Bool.{Bool, true, false}
 use mathlib.Core.List.{List, [], _∷_, _++_, append-assoc, append-nil}
 use Prim.Native.Nat.{ℕ, zero, suc, _+_, _-_, _*_, _^_, _/_, _<_, _≤_}
 use native.Mathlib.Omega.{arith}
-use borrow.Author.Tests.{ltb-true, ltb-false, le-leb, lt-leb}
+use borrow.Author.Tests.{ltb-true, ltb-false}
 use lib.Dec.{ltb}
 use lib.ListN.{length, length-append, set}
 use lib.Pow.{pow-add}
 use native.Mathlib.Decide.{decLt}
+use Rattle.refusal.proofs.Checks.{tests}
 use Rattle.cells.specs.Buffer.{written}
 use Rattle.cells.proofs.Buffer.{written-none, written-before, length-written}
+use Rattle.cells.proofs.Writing.{refused-leaves, passed-writes}
 use Rattle.characters.specs.Characters.{hexDigit}
-use Rattle.unit.specs.Hex.{digitsOf, hexText, digitCount, afterHex}
+use Rattle.unit.specs.Hex.{digitsOf, hexText, digitCount, writeChecks, afterHex}
 
 -- the bound on their number does not show
 fuel : (f g n : ℕ) → n < f → n < g → digitsOf f n ≡ digitsOf g n
@@ -138,9 +140,9 @@ module _ {number at : ℕ} {old buffer : List ℕ} {rest place : ℕ} (g : Writi
 -- the buffer afterwards
 module _ (number at : ℕ) (old : List ℕ) where
   pub after-refused : length old < at + digitCount number → old ≡ afterHex number at old
-  unfolding afterHex
-  after-refused h = rw (lt-leb (at + digitCount number) (length old) h, afterHex)
+  unfolding afterHex writeChecks
+  after-refused h = sym (refused-leaves _ _ _ _ 0 (omega (arith, tests)))
 
   pub after-written : at + digitCount number ≤ length old → written old at (hexText number) ≡ afterHex number at old
-  unfolding afterHex
-  after-written h = rw (le-leb (at + digitCount number) (length old) h, afterHex)
+  unfolding afterHex writeChecks
+  after-written h = sym (passed-writes _ _ _ _ (omega (arith, tests), tt))

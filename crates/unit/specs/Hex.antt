@@ -1,12 +1,12 @@
 -- Numbers as hexadecimal text, over the largest number allowed (document 01, "CPU properties and unit text" and refusal 20).
 use Prim.Native.Nat.{ℕ, zero, suc, _+_, _*_, _/_}
-use mathlib.Core.Bool.{Bool, true, false}
+use mathlib.Core.Bool.{true, false}
 use mathlib.Core.List.{List, [], _∷_, _++_}
 use lib.Dec.{leb, ltb}
 use lib.ListN.{length}
 use Rattle.characters.specs.declared.HexValue.the-variants.{Digit, None}
 use Rattle.characters.specs.Characters.{hexValue, hexDigit}
-use Rattle.cells.specs.Buffer.{written}
+use Rattle.cells.specs.Buffer.{afterWriting}
 use Rattle.refusal.specs.Refusal.{Outcome, answer, refuse}
 use Rattle.refusal.specs.Checks.{Check, check, firstFault}
 
@@ -56,14 +56,15 @@ hexText n = digitsOf (suc n) n
 unfoldable pub digitCount : ℕ → ℕ
 digitCount n = length (hexText n)
 
--- a buffer of `room` bytes has place for the text from `at` on
-abbrev pub fits : ℕ → ℕ → ℕ → Bool
-fits n at room = leb (at + digitCount n) room
+-- what is asked of a buffer of some bytes, into which the text is written from place `at` on: "the lent buffer is shorter than what is to
+-- be written" (18)
+unfoldable pub writeChecks : ℕ → ℕ → ℕ → List (Check ℕ)
+writeChecks n at room = check (leb (at + digitCount n) room) 18 ∷ []
 
--- the number of bytes written, or 18
+-- the number of bytes written
 unfoldable pub writeHex : ℕ → ℕ → ℕ → Outcome ℕ
-writeHex n at room = firstFault (refuse 0) (check (fits n at room) 18 ∷ []) (answer (digitCount n))
+writeHex n at room = firstFault (refuse 0) (writeChecks n at room) (answer (digitCount n))
 
 -- the buffer afterwards; a refusal leaves it
 unfoldable pub afterHex : ℕ → ℕ → List ℕ → List ℕ
-afterHex n at old = elim (fits n at (length old)) [ true ↦ written old at (hexText n) | false ↦ old ]
+afterHex n at old = afterWriting (writeChecks n at (length old)) old at (hexText n)

@@ -6,7 +6,7 @@ use Prim.Native.Nat.{_+_, _≤_}
 use lib.ListN.{length}
 use Rattle.refusal.specs.Refusal.{answer, refuse}
 use Rattle.refusal.proofs.Checks.{stops, passes, tests}
-use Rattle.unit.specs.Hex.{digitCount, writeHex}
+use Rattle.unit.specs.Hex.{digitCount, writeChecks, writeHex}
 use Rattle.unit.proofs.Digits.{Writing, writing-none, writing-more, writing-length, writing-all, after-refused, after-written}
 use Rattle.unit.proofs.write_hex.Statement.{statement}
 use Rattle.unit.proofs.write_hex.Tie as tie
@@ -22,14 +22,14 @@ digit-count-requires : tie.Need-digit-count-requires Inv-loop μ-loop
 digit-count-requires c κs = search needs
 
 returns : tie.Need-returns Inv-loop μ-loop
-unfolding writeHex
+unfolding writeHex writeChecks
 returns c = let n = c .before .digit-count .ensures in (sym (stops (refuse 0) 0 0 _ _ (omega (arith, tests))), after-refused _ _ _ (omega arith))
 
 sub-if2 : tie.Need-sub-if2 Inv-loop μ-loop
 sub-if2 c = search needs
 
 returns-2 : tie.Need-returns-2 Inv-loop μ-loop
-unfolding writeHex
+unfolding writeHex writeChecks
 returns-2 c = let n = c .before .before .digit-count .ensures in (sym (stops (refuse 0) 0 0 _ _ (omega (arith, tests))), after-refused _ _ _ (omega arith))
 
 add-place : tie.Need-add-place Inv-loop μ-loop
@@ -57,7 +57,7 @@ same-length : tie.Need-same-length Inv-loop μ-loop
 same-length c = writing-length (c .before .loop .inv .2)
 
 returns-3 : tie.Need-returns-3 Inv-loop μ-loop
-unfolding writeHex
+unfolding writeHex writeChecks
 returns-3 c =
     let l = c .before .loop .inv in (
       ap answer (l .0) ∙ sym (passes (refuse 0) _ _ (omega (arith, tests, l .0, l .1), tt)),
