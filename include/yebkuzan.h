@@ -455,7 +455,8 @@ YebkuzanUnit yebkuzan_read_unit(const uint8_t *text, size_t text_length);
 
 /*
  * The shortest lower-case text of a unit number, without a zero byte, into the front of `out`; its later bytes stay. 18 where `out` is
- * shorter than the text; YEBKUZAN_UNIT_TEXT_BYTES bytes are always enough.
+ * shorter than the text; YEBKUZAN_UNIT_TEXT_BYTES bytes are always enough. Each digit goes straight into `out`: the call keeps no array
+ * of its own, and on x86-64 it uses at most 64 bytes of stack, its return address included.
  */
 YebkuzanWritten yebkuzan_write_unit(uint32_t unit, uint8_t *out, size_t out_length);
 

@@ -1,6 +1,7 @@
 """Tries wrong models on the vectors: of the resolver on kinds `b`, `c`, `e` and `n`, of the reader of the feature record on
-kind `r`, of sizes on kinds `p` and `s`, of radix encodings on kind `x`, of attributes on kind `a`, of string lists on kind
-`m`, of names on kinds `t`, `r` and `l`, each of these by itself. Each must change some lines.
+kind `r`, of writers into a lent buffer on kinds `w` and `c`, of sizes on kinds `p` and `s`, of radix encodings on kind `x`, of
+attributes on kind `a`, of string lists on kind `m`, of names on kinds `t`, `r` and `l`, each of these by itself. Each must
+change some lines.
 
     python3 tests/vectors/wrong_models.py
 
@@ -403,6 +404,97 @@ WRONG_READER = (
     ("feature_of", capability_bit_only_of_users),
     *WRONG_CONTAINER,
 )
+
+
+# The right ones that write: unit text and chains. A wrong one makes of the buffer before and of the right answer (number, length, the
+# buffer afterwards) another length and buffer.
+write_unit, chain = properties.write_unit, resolver.chain
+
+
+def zero_byte_behind(before, number, length, after):
+    return length, after if number or length == len(after) else after[:length] + b"\0" + after[length + 1 :]
+
+
+def byte_behind_doubled(before, number, length, after):
+    return length, after if number or length == len(after) else after[:length] + after[length - 1 : length] + after[length + 1 :]
+
+
+def later_bytes_cleared(before, number, length, after):
+    return length, after if number else after[:length] + bytes(len(after) - length)
+
+
+def written_at_the_end(before, number, length, after):
+    return length, after if number else before[: len(before) - length] + after[:length]
+
+
+def all_bytes_counted(before, number, length, after):
+    return length if number else len(before), after
+
+
+def cleared_though_refused(before, number, length, after):
+    return length, bytes(len(after)) if number else after
+
+
+def last_byte_cleared_though_18(before, number, length, after):
+    return length, after[:-1] + b"\0" if number == 18 and after else after
+
+
+def room_answered_beside_18(before, number, length, after):
+    return len(before) if number == 18 else length, after
+
+
+def of_unit(wrong):
+    def write(unit, buffer):
+        number, (length, *after) = write_unit(unit, buffer)
+        length, after = wrong(buffer, number, length, bytes(after))
+        return number, [length, *after]
+
+    write.__name__ = wrong.__name__
+    return write
+
+
+def of_chain(wrong):
+    def told(record, level, grants, position, buffer):
+        number, length, after = chain(record, level, grants, position, buffer)
+        return (number, *wrong(buffer, number, length, after))
+
+    told.__name__ = wrong.__name__
+    return told
+
+
+def written_as(form):
+    """A unit number in another text."""
+
+    def write(unit, buffer):
+        text = form.format(unit).encode("ascii")
+        return (18, [0, *buffer]) if len(text) > len(buffer) else (0, [len(text), *text, *buffer[len(text) :]])
+
+    write.__name__ = "written as " + form
+    return write
+
+
+def exact_room_is_18(unit, buffer):
+    return write_unit(unit, buffer) if len("%x" % unit) != len(buffer) else (18, [0, *buffer])
+
+
+WRONG_BYTES = (
+    zero_byte_behind,
+    byte_behind_doubled,
+    later_bytes_cleared,
+    written_at_the_end,
+    all_bytes_counted,
+    cleared_though_refused,
+    last_byte_cleared_though_18,
+    room_answered_beside_18,
+)
+
+WRONG_UNIT = (
+    *(("write_unit", of_unit(wrong)) for wrong in WRONG_BYTES),
+    *(("write_unit", written_as(form)) for form in ("{:X}", "{:08x}", "{:#x}", "0{:x}", "{:d}")),
+    ("write_unit", exact_room_is_18),
+)
+
+WRONG_CHAIN = tuple(("chain", of_chain(wrong)) for wrong in WRONG_BYTES)
 
 
 # The right ones of sizes.
@@ -1240,7 +1332,9 @@ TABLES = {"p": "page_sizes", "s": "segment_sizes", "x": "radix_encodings"}
 
 
 def table_answer(kind, data):
-    if kind == "a":
+    if kind == "w":
+        number, values = properties.write_unit(int.from_bytes(data[:4], "big"), data[4:])
+    elif kind == "a":
         number, values = properties.pa_features(data[4:], int.from_bytes(data[:4], "big"))
     else:
         number, values = getattr(properties, TABLES[kind])(data)
@@ -1264,13 +1358,15 @@ def main():
     queries = [vector for module in RESOLVER for vector in module.vectors()]
     records = [vector for module in READER for vector in module.vectors()]
     tables = list(property_vectors())
-    sizes, radix, attributes = ([vector for vector in tables if vector[0] in kinds] for kinds in ("ps", "x", "a"))
+    units, sizes, radix, attributes = ([vector for vector in tables if vector[0] in kinds] for kinds in ("w", "ps", "x", "a"))
     lists = list(string_vectors())
     read = {"t": [*trees.vectors(), *damage.vectors()], "r": records}
     read["l"] = [vector for vector in lookups.vectors() if vector[0] == "l"]
     tried = [
         *[(resolver, answer, queries, *wrong) for wrong in WRONG],
         *[(reader, lambda _, data: record_answer(data), records, *wrong) for wrong in WRONG_READER],
+        *[(properties, table_answer, units, *wrong) for wrong in WRONG_UNIT],
+        *[(resolver, answer, [query for query in queries if query[0] == "c"], *wrong) for wrong in WRONG_CHAIN],
         *[(properties, table_answer, sizes, *wrong) for wrong in WRONG_SIZES],
         *[(properties, table_answer, radix, *wrong) for wrong in WRONG_RADIX],
         *[(properties, table_answer, attributes, *wrong) for wrong in WRONG_ATTRIBUTES],
@@ -1284,10 +1380,10 @@ def main():
             print("the wrong model %s for %s changes no vector" % (called, name), file=sys.stderr)
             return 1
         print("wrong model %s for %s: changes vector %s first" % (called, name, found))
-    counts = [len(some) for some in (WRONG, WRONG_READER, WRONG_SIZES, WRONG_RADIX, WRONG_ATTRIBUTES, WRONG_NAMES, WRONG_STRINGS)]
+    counted = (WRONG, WRONG_READER, WRONG_UNIT + WRONG_CHAIN, WRONG_SIZES, WRONG_RADIX, WRONG_ATTRIBUTES, WRONG_NAMES, WRONG_STRINGS)
     print(
-        "%d wrong models of the resolver, %d of the reader, %d of sizes, %d of radix encodings, %d of attributes, %d of names and "
-        "%d of string lists, each seen" % tuple(counts)
+        "%d wrong models of the resolver, %d of the reader, %d of writers, %d of sizes, %d of radix encodings, %d of attributes, "
+        "%d of names and %d of string lists, each seen" % tuple(map(len, counted))
     )
     return 0
 

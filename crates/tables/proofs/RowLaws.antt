@@ -1,20 +1,22 @@
 -- Laws of the rows of a table: their words, and a row replaced. Assumes nothing.
 use Prim.Native.Nat.{ℕ, zero, suc, _+_, _*_, _≤_, _<_}
-use mathlib.Core.Path.{_≡_, refl, sym, ap, _∙_}
-use mathlib.Core.List.{List, [], _∷_, _++_}
+use mathlib.Core.Path.{_≡_, refl, sym, ap, subst, _∙_}
+use mathlib.Core.List.{List, [], _∷_, _++_, append-assoc}
 use native.Mathlib.Decide.{decLt}
 use native.Mathlib.Nat.{add-zero}
 use native.Mathlib.Numerals.{add-one}
 use native.Mathlib.Omega.{arith}
 use borrow.Author.Count.{below-more}
 use borrow.Author.Tests.{lt-ltb, le-ltb}
-use lib.ListN.{length, getD, set, take, length-set}
-use lib.Seq.{sets, length-sets, getD-set-same, getD-set-other, ext-getD, length-take-le, take-suc, take-all}
+use lib.ListN.{length, getD, set, take, drop, length-set}
+use lib.Seq.{sets, sets-eq, length-sets, getD-set-same, getD-set-other, ext-getD, length-take-le, take-suc, take-all}
+use Rattle.cells.specs.Buffer.{Stays, written}
 use Rattle.cells.specs.Rows.{each}
 use Rattle.cells.proofs.Rows.{length-each, row-at}
+use Rattle.cells.proofs.Writing.{written-writes, nothing-stays}
 use Rattle.positions.specs.Sets.{setWords, setOf, noMembers}
 use Rattle.record.specs.Record.{mostFeatures}
-use Rattle.tables.specs.Tables.{rowAt, rowOrNone}
+use Rattle.tables.specs.Tables.{rowAt, rowOrNone, tableWords}
 use Rattle.tables.specs.Parts.{withRow, rowPut}
 
 -- the words of a row
@@ -117,6 +119,26 @@ row-put-low table i words h = rw (lt-ltb i mostFeatures h)
 pub row-put-past : (table : List ℕ) (i : ℕ) (words : List ℕ) → mostFeatures ≤ i → table ≡ rowPut table i words
 unfolding rowPut
 row-put-past table i words h = rw (le-ltb i mostFeatures h)
+
+-- a row is written as bytes are into a lent buffer, and all other words stay
+row-written : (table : List ℕ) (i : ℕ) (words : List ℕ) → setWords * i + length words ≤ length table
+    → withRow table i words ≡ written table (setWords * i) words
+unfolding withRow written
+row-written table i words h =
+    sets-eq words table (setWords * i) h
+    ∙ append-assoc (take (setWords * i) table) words (drop (setWords * i + length words) table)
+
+pub row-stays : (table : List ℕ) (i : ℕ) (words : List ℕ) → length table ≡ tableWords → length words ≡ setWords
+    → Stays table (setWords * i) setWords (rowPut table i words)
+row-stays table i words full whole = go (decLt i mostFeatures)
+  where
+    go : Dec (i < mostFeatures) → Stays table (setWords * i) setWords (rowPut table i words)
+    go (yes h) =
+        let fits : setWords * i + length words ≤ length table = omega arith in
+        subst (λ (n : ℕ). Stays table (setWords * i) n (rowPut table i words)) whole
+        (subst (Stays table (setWords * i) (length words)) (sym (row-put-low table i words h ∙ row-written table i words fits))
+        (written-writes table (setWords * i) words fits .stays))
+    go (no h) = subst (Stays table (setWords * i) setWords) (row-put-past table i words (omega arith)) (nothing-stays table (setWords * i) setWords)
 
 -- the rows of a table with a row replaced
 pub length-with-row : (table : List ℕ) (i : ℕ) (words : List ℕ) → length (withRow table i words) ≡ length table
