@@ -5,8 +5,8 @@
                                            use is at most what include/yebkuzan.h says
     python3 tests/stack/check.py --wrong   sources and compiled writers that are wrong in one place are each found out
 
-Compiled code has no array on the stack where no instruction names the stack pointer: what is left are return addresses and pushed
-registers, and these are counted, on every path. The archive is that of `rt staticlib capi`, for x86-64. It needs gcc and objdump.
+Compiled code has no array where no instruction names the stack pointer or data of the archive: what is left on the stack are return
+addresses and pushed registers, and these are counted, on every path. The archive is that of `rt staticlib capi`, for x86-64. It needs gcc and objdump.
 Standard library only, Python 3.9 or later.
 """
 import re
@@ -82,7 +82,7 @@ def source_faults(known):
 
 
 def code(binary):
-    """Each function's instructions, and the symbols that it calls or jumps to, `?` where a register says where."""
+    """Each function's instructions, with the symbol that each names, if any; `?` for a call by a register."""
     run = subprocess.run(["objdump", "-dr", "--no-show-raw-insn", binary], capture_output=True, text=True, check=True)
     found, name = {}, None
     for line in run.stdout.splitlines():
@@ -112,14 +112,16 @@ def code_faults(found, name, inside=()):
         kind = text.split()[0]
         if kind.startswith("push"):
             pushed += WORD
-        elif re.search(r"%[re]?sp\b", text):
+        elif re.search(r"%[re]?sp\b|^(enter|leave)", text):
             faults.append(f"{name} names the stack pointer: {text}")
-        if target not in (None, name) and re.match(r"call|j", kind):
+        if target is None or (target == name and kind.startswith("j")):
+            continue
+        if re.match(r"call|j", kind):
             below, more = code_faults(found, target, (*inside, name))
             deepest = max(deepest, below)
             faults += more
-        elif target == name and kind.startswith("call"):
-            faults.append(f"{name} calls itself")
+        else:
+            faults.append(f"{name} uses {target}: {text}")
     return WORD + pushed + deepest, faults
 
 
@@ -165,7 +167,7 @@ def wrong():
     writers = ROOT / "tests/stack/writers.c"
     names = re.findall(r"^\w+ \*?((?:right|wrong)_\w+)\(uint32_t", writers.read_text(), re.M)
     with tempfile.TemporaryDirectory() as folder:
-        for level in ("-O1", "-O2", "-Os"):
+        for level in ("-O2", "-Os"):
             binary = Path(folder, "writers.o")
             flags = ["-std=gnu11", level, "-Wall", "-Wextra", "-Werror", "-fno-stack-protector", "-fcf-protection=none", f"-I{ROOT / 'include'}"]
             subprocess.run(["gcc", *flags, "-c", "-o", binary, writers], check=True)

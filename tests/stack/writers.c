@@ -1,4 +1,4 @@
-/* Writers of unit text, as C: those that keep an array of their own, or use the stack in another way, and two that do not. */
+/* Writers of unit text in C: those that keep an array of their own, or use the stack in its place, and two that do not. */
 #include <alloca.h>
 #include <stdio.h>
 #include <string.h>
@@ -7,9 +7,9 @@
 
 static const YebkuzanWritten refused = { YEBKUZAN_REFUSAL_BUFFER_LENGTH, 0 };
 
-static char digit(uint32_t value) { return (char)(value < 10 ? '0' + value : 'a' + (value - 10)); }
+__attribute__((always_inline)) static inline char digit(uint32_t value) { return (char)(value < 10 ? '0' + value : 'a' + (value - 10)); }
 
-static size_t digits(uint32_t unit)
+__attribute__((always_inline)) static inline size_t digits(uint32_t unit)
 {
     size_t count = 1;
     while (unit >= 16) {
@@ -32,21 +32,20 @@ YebkuzanWritten right_straight(uint32_t unit, uint8_t *out, size_t out_length)
     return (YebkuzanWritten){ 0, (uint32_t)count };
 }
 
-/* The same in a function of its own. */
-__attribute__((noinline)) static void put(uint32_t unit, uint8_t *out, size_t count)
+/* The same in a function of its own, which is jumped to. */
+__attribute__((noinline)) static YebkuzanWritten put(uint32_t unit, uint8_t *out, size_t count)
 {
     for (size_t k = count; k > 0; k--) {
         out[k - 1] = (uint8_t)digit(unit % 16);
         unit /= 16;
     }
+    return (YebkuzanWritten){ 0, (uint32_t)count };
 }
 
-YebkuzanWritten right_called(uint32_t unit, uint8_t *out, size_t out_length)
+YebkuzanWritten right_in_another_function(uint32_t unit, uint8_t *out, size_t out_length)
 {
     size_t count = digits(unit);
-    if (count <= out_length)
-        put(unit, out, count);
-    return count <= out_length ? (YebkuzanWritten){ 0, (uint32_t)count } : refused;
+    return count <= out_length ? put(unit, out, count) : refused;
 }
 
 /* Digits from the last to the first in an array, which is copied. */
@@ -110,6 +109,33 @@ YebkuzanWritten wrong_recursion(uint32_t unit, uint8_t *out, size_t out_length)
     if (out_length < count)
         return refused;
     each(unit, out);
+    return (YebkuzanWritten){ 0, (uint32_t)count };
+}
+
+/* The array in static memory. */
+YebkuzanWritten wrong_static_array(uint32_t unit, uint8_t *out, size_t out_length)
+{
+    static uint8_t text[8];
+    size_t count = 0;
+    do {
+        text[count++] = (uint8_t)digit(unit % 16);
+        unit /= 16;
+    } while (unit != 0);
+    for (size_t k = 0; k < count && count <= out_length; k++)
+        out[k] = text[count - 1 - k];
+    return count <= out_length ? (YebkuzanWritten){ 0, (uint32_t)count } : refused;
+}
+
+/* A constant table of the digits. */
+YebkuzanWritten wrong_constant_table(uint32_t unit, uint8_t *out, size_t out_length)
+{
+    size_t count = digits(unit);
+    if (out_length < count)
+        return refused;
+    for (size_t k = count; k > 0; k--) {
+        out[k - 1] = (uint8_t)"0123456789abcdef"[unit % 16];
+        unit /= 16;
+    }
     return (YebkuzanWritten){ 0, (uint32_t)count };
 }
 
