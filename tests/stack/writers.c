@@ -19,6 +19,19 @@ __attribute__((always_inline)) static inline size_t digits(uint32_t unit)
     return count;
 }
 
+/* Digits into an array from the last to the first, and from there into the buffer. */
+__attribute__((always_inline)) static inline YebkuzanWritten through(uint8_t *text, uint32_t unit, uint8_t *out, size_t out_length)
+{
+    size_t count = 0;
+    do {
+        text[count++] = (uint8_t)digit(unit % 16);
+        unit /= 16;
+    } while (unit != 0);
+    for (size_t k = 0; k < count && count <= out_length; k++)
+        out[k] = text[count - 1 - k];
+    return count <= out_length ? (YebkuzanWritten){ 0, (uint32_t)count } : refused;
+}
+
 /* Each digit straight into the buffer. */
 YebkuzanWritten right_straight(uint32_t unit, uint8_t *out, size_t out_length)
 {
@@ -48,40 +61,23 @@ YebkuzanWritten right_in_another_function(uint32_t unit, uint8_t *out, size_t ou
     return count <= out_length ? put(unit, out, count) : refused;
 }
 
-/* Digits from the last to the first in an array, which is copied. */
+/* An array of its own. */
 YebkuzanWritten wrong_eight_bytes(uint32_t unit, uint8_t *out, size_t out_length)
 {
     uint8_t text[8];
-    size_t count = 0;
-    do {
-        text[count++] = (uint8_t)digit(unit % 16);
-        unit /= 16;
-    } while (unit != 0);
-    if (out_length < count)
-        return refused;
-    for (size_t k = 0; k < count; k++)
-        out[k] = text[count - 1 - k];
-    return (YebkuzanWritten){ 0, (uint32_t)count };
+    return through(text, unit, out, out_length);
 }
 
 /* The array in a function that it calls. */
-__attribute__((noinline)) static size_t reversed(uint32_t unit, uint8_t *out, size_t out_length)
+__attribute__((noinline)) static YebkuzanWritten called(uint32_t unit, uint8_t *out, size_t out_length)
 {
     uint8_t text[16];
-    size_t count = 0;
-    do {
-        text[count++] = (uint8_t)digit(unit % 16);
-        unit /= 16;
-    } while (unit != 0);
-    for (size_t k = 0; k < count && count <= out_length; k++)
-        out[k] = text[count - 1 - k];
-    return count;
+    return through(text, unit, out, out_length);
 }
 
 YebkuzanWritten wrong_in_a_called_function(uint32_t unit, uint8_t *out, size_t out_length)
 {
-    size_t count = reversed(unit, out, out_length);
-    return count <= out_length ? (YebkuzanWritten){ 0, (uint32_t)count } : refused;
+    return called(unit, out, out_length);
 }
 
 /* The C library's writer, with its own stack. */
@@ -116,14 +112,7 @@ YebkuzanWritten wrong_recursion(uint32_t unit, uint8_t *out, size_t out_length)
 YebkuzanWritten wrong_static_array(uint32_t unit, uint8_t *out, size_t out_length)
 {
     static uint8_t text[8];
-    size_t count = 0;
-    do {
-        text[count++] = (uint8_t)digit(unit % 16);
-        unit /= 16;
-    } while (unit != 0);
-    for (size_t k = 0; k < count && count <= out_length; k++)
-        out[k] = text[count - 1 - k];
-    return count <= out_length ? (YebkuzanWritten){ 0, (uint32_t)count } : refused;
+    return through(text, unit, out, out_length);
 }
 
 /* A constant table of the digits. */

@@ -119,7 +119,7 @@ pub record Demand1Resolver (r : Record) (level : ℕ) (g : Grants) : Type 0 wher
   -- (A5) "wherever a lent buffer is written, bytes past what is written stay": as many are written as the call answers
   pub chainStays : (i : ℕ) (buffer : List ℕ) → Stays buffer 0 (chain r level g i (length buffer) .value) (afterChain r level g i buffer)
 
--- `chain_by_slots`, of slots, counts and a set that are handed in: "16, 17, 18", and the same of a lent buffer
+-- `chain_by_slots`, of slots, counts and a set that are handed in: "16, 17, 18", and the same of a lent buffer, its later bytes too (A5)
 pub record Demand1Slots (slots counts : List ℕ) (n : ℕ) (set : List ℕ) (i : ℕ) (buffer : List ℕ) : Type 0 where
   pub slotsEnd : Ends (16 ∷ 17 ∷ 18 ∷ []) 0 (chainBySlots slots counts n set i (length buffer))
   pub slotsKeep : Keeps (chainBySlots slots counts n set i (length buffer)) buffer (afterChainBySlots slots counts n set i buffer)
@@ -193,7 +193,7 @@ pub record Demand1Unit (text : List ℕ) (n : ℕ) (buffer : List ℕ) : Type 0 
   pub hexWriteKeeps : (at : ℕ) → Keeps (writeHex n at (length buffer)) buffer (afterHex n at buffer)
   pub hexWriteStays : (at : ℕ) → Stays buffer at (writeHex n at (length buffer) .value) (afterHex n at buffer)
 
--- `write_line`: 16 for a line past the last, then 18
+-- `write_line`: 16 for a line past the last, then 18; of the lent buffer the same as for a chain (A5)
 pub record Demand1Line (tree : List ℕ) (k : ℕ) (buffer : List ℕ) : Type 0 where
   pub lineEnds : Ends (16 ∷ 18 ∷ []) 0 (writeLine tree k (length buffer))
   pub lineKeeps : Keeps (writeLine tree k (length buffer)) buffer (afterLine tree k buffer)
