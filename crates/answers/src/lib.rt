@@ -1,4 +1,6 @@
 // Answers as C takes them: the number of a refusal in the place of the enum, which cannot cross to C, and the same values beside it.
+#![tactic(auto)]
+
 ghost use Rattle.std.specs.Prelude.{◌≡◌};
 ghost use Rattle.sizes.specs.Sizes.{sizes_outcome};
 ghost use Rattle.segments.specs.Segments.{segments_outcome};

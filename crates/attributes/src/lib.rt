@@ -1,4 +1,6 @@
 // `ibm,pa-features`, `ibm,pi-features` and `ibm,extended-bus-frequency`.
+#![tactic(auto)]
+
 ghost use Rattle.std.specs.Prelude.{◌≡◌, ◌≤◌, ◌<◌, length};
 ghost use Rattle.cells.specs.Buffer.{written};
 ghost use Rattle.refusal.specs.Refusal.{number_of};

@@ -1,4 +1,6 @@
 // Big-endian cells in byte slices. Every public function takes any slice and any place.
+#![tactic(auto)]
+
 ghost use Rattle.std.specs.Prelude.{◌≡◌, ◌+◌, ◌*◌, ◌≤◌, min, length};
 ghost use Rattle.cells.specs.Cells.{byte_at, cell_at, word_at};
 

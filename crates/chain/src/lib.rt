@@ -1,4 +1,6 @@
 // The shortest chain of dependencies from a feature left out to an unpermitted one.
+#![tactic(auto)]
+
 ghost use Rattle.std.specs.Prelude.{◌≡◌, ◌≤◌, ◌<◌, length};
 ghost use Rattle.refusal.specs.Refusal.{refuse, number_of};
 ghost use Rattle.cells.specs.Buffer.{written};

@@ -1,4 +1,6 @@
 // Characters of names and of hexadecimal numbers, by one constant table.
+#![tactic(auto)]
+
 ghost use Rattle.std.specs.Prelude.{◌≡◌};
 ghost use Rattle.characters.specs.Characters.{entry_of, character_table, is_node_entry, is_property_entry, hex_value, hex_digit};
 

@@ -1,4 +1,6 @@
 // The largest closed part of a set of positions: passes over the slots until none takes a position out.
+#![tactic(auto)]
+
 ghost use Rattle.std.specs.Prelude.{◌≡◌, ◌≤◌, ◌<◌};
 ghost use Rattle.record.specs.Record.{most_features, most_dependencies};
 ghost use Rattle.closure.specs.Slots.{closed_part};

@@ -1,5 +1,7 @@
 // The strings by which a node is the container of the CPU features (A3). Every function takes any slice: the bytes of a property's value,
 // none where it is missing.
+#![tactic(auto)]
+
 ghost use Rattle.std.specs.Prelude.{◌≡◌};
 ghost use Rattle.container.specs.Container.{is_container_type, is_container_compatible};
 

@@ -1,4 +1,6 @@
 // The enabled set of a record: the largest closed part of the permitted features.
+#![tactic(auto)]
+
 ghost use Rattle.std.specs.Prelude.{◌≡◌};
 ghost use Rattle.refusal.specs.Refusal.{answer, refuse, number_of};
 ghost use Rattle.enabled.specs.Answers.{

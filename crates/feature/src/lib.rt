@@ -1,5 +1,7 @@
 // The cells of a feature's properties as read: which refusal comes first, the feature with its word `given`, and which feature carries a
 // phandle.
+#![tactic(auto)]
+
 ghost use Rattle.std.specs.Prelude.{◌≡◌, ◌*◌, ◌≤◌, min};
 ghost use Rattle.refusal.specs.Refusal.{number_of};
 ghost use Rattle.positions.specs.Below.{one_if, first_that};

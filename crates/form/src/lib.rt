@@ -1,4 +1,6 @@
 // The form of a feature record: document 01's number 14 is for those that are not well formed.
+#![tactic(auto)]
+
 ghost use Rattle.std.specs.Prelude.{◌≡◌, ◌≤◌, ◌<◌};
 ghost use Rattle.positions.specs.Below.{every};
 ghost use Rattle.record.specs.Record.{most_features, most_dependencies};

@@ -1,4 +1,6 @@
 // The header of a flattened tree.
+#![tactic(auto)]
+
 ghost use Rattle.std.specs.Prelude.{◌≡◌, ◌<◌, ◌^◌};
 ghost use Rattle.cells.specs.Cells.{cell_at};
 ghost use Rattle.refusal.specs.Refusal.{number_of, fault, refuse_at};

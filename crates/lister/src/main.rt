@@ -1,5 +1,7 @@
 // Lists the CPU features of a device tree: reads the tree from standard input and prints its list, line by line. A tree that is refused is
 // a list too, of one line.
+#![tactic(auto)]
+
 use header::LARGEST_TREE;
 use libc::{STDERR_FILENO, STDIN_FILENO, STDOUT_FILENO};
 use listing::LONGEST_LINE;

@@ -1,4 +1,6 @@
 // The lister's text: the lines of a tree, one at a time.
+#![tactic(auto)]
+
 ghost use Rattle.std.specs.Prelude.{◌≡◌, ◌++◌, ◌+◌, ◌<◌, ◌≤◌, length as length-of};
 ghost use Rattle.refusal.specs.Refusal.{refuse, number_of};
 ghost use Rattle.record.specs.Record.{most_features};

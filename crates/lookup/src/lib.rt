@@ -1,4 +1,6 @@
 // A property of a CPU node, looked up in the node's own block of properties and then in that of its parent, `/cpus`.
+#![tactic(auto)]
+
 ghost use Rattle.std.specs.Prelude.{◌≡◌};
 ghost use Rattle.strings.specs.Strings.{ended};
 ghost use Rattle.names.specs.Names.{same_text};

@@ -1,4 +1,6 @@
 // Names in a block of bytes compared, with each other and with given characters.
+#![tactic(auto)]
+
 ghost use Rattle.std.specs.Prelude.{◌≡◌};
 ghost use Rattle.strings.specs.Strings.{text_at, ended};
 ghost use Rattle.names.specs.Names.{same_text};

@@ -1,4 +1,6 @@
 // Names of nodes and properties in a block of bytes: read once, character by character, no further than their limit.
+#![tactic(auto)]
+
 ghost use Rattle.std.specs.Prelude.{◌≡◌, ◌+◌, min, length};
 ghost use Rattle.names.specs.Names.{name_outcome, node_name_at, property_name_at, root_name_at};
 

@@ -1,4 +1,6 @@
 // Nodes in a tree: the value of a property, the direct children, their names. Every public function takes any tree, blocks and place.
+#![tactic(auto)]
+
 ghost use Rattle.std.specs.Prelude.{◌≡◌, ◌≤◌, ◌<◌, min, length as length-of};
 ghost use Rattle.strings.specs.Strings.{text_at};
 ghost use Rattle.record.specs.Record.{most_features};

@@ -1,4 +1,6 @@
 // Which features are permitted at a level under grants.
+#![tactic(auto)]
+
 ghost use Rattle.std.specs.Prelude.{◌≡◌, true, cond, ◌≤◌, ◌<◌, min};
 ghost use Rattle.refusal.specs.Refusal.{number_of, refuse};
 ghost use Rattle.positions.specs.Bits.{bit};

@@ -1,4 +1,6 @@
 // Positions below a bound, the bits of words, and sets of positions.
+#![tactic(auto)]
+
 ghost use Rattle.std.specs.Prelude.{◌≡◌, ◌<◌};
 ghost use Rattle.positions.specs.Bits.{bit};
 ghost use Rattle.positions.specs.Sets.{

@@ -1,4 +1,6 @@
 // The properties of a node or block: their names, and that none is given twice.
+#![tactic(auto)]
+
 ghost use Rattle.std.specs.Prelude.{◌≡◌, ◌+◌, ◌<◌, min, [], set};
 ghost use Rattle.strings.specs.Strings.{text_at, ended};
 ghost use Rattle.names.specs.Names.{both, same_text};

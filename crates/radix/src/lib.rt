@@ -1,4 +1,6 @@
 // `ibm,processor-radix-AP-encodings`: the page sizes of radix translation, each with its AP encoding.
+#![tactic(auto)]
+
 ghost use Rattle.std.specs.Prelude.{◌≡◌};
 ghost use Rattle.radix.specs.Radix.{radix_encodings, radix_outcome};
 ghost use Rattle.radix.specs.Parts.{encodings_in};

@@ -1,4 +1,6 @@
 // The reach table of a record: rows of dependencies with each position let through in turn; and the enabled set by a table.
+#![tactic(auto)]
+
 ghost use Rattle.std.specs.Prelude.{◌≡◌, ◌≤◌, ◌<◌};
 ghost use Rattle.record.specs.Record.{most_features};
 ghost use Rattle.tables.specs.Tables.{table_of};

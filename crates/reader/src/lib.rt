@@ -1,4 +1,6 @@
 // The feature record of a tree.
+#![tactic(auto)]
+
 mod cell;
 mod dependencies;
 mod features;

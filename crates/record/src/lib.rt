@@ -1,4 +1,6 @@
 // The feature record, and the view of its cells.
+#![tactic(auto)]
+
 ghost use Rattle.std.specs.Prelude.{◌≡◌};
 ghost use Rattle.positions.specs.Bits.{bit as bit_of};
 ghost use Rattle.record.specs.Cells.{cell as cell_of, when_given, low_bit, dependency_count};

@@ -1,4 +1,6 @@
 // `ibm,segment-page-sizes`: for each base page size its SLB encoding, and the page sizes that a segment of it may have.
+#![tactic(auto)]
+
 ghost use Rattle.std.specs.Prelude.{◌≡◌, [], ◌+◌, ◌*◌, ◌≤◌, length};
 ghost use Rattle.refusal.specs.Refusal.{number_of, refuse};
 ghost use Rattle.refusal.specs.Checks.{fault_of};

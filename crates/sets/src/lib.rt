@@ -1,4 +1,6 @@
 // Two sets of positions compared and joined, word by word.
+#![tactic(auto)]
+
 ghost use Rattle.std.specs.Prelude.{◌≡◌};
 ghost use Rattle.positions.specs.Below.{first_that};
 ghost use Rattle.positions.specs.Sets.{is_subset, common, either, room, member_outside};

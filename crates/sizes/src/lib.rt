@@ -1,5 +1,7 @@
 // Page and segment sizes: cells that are exponents of powers of two, strictly ascending. A cell of segment sizes may say that there is no
 // size in its place; one of radix encodings has more than an exponent in it.
+#![tactic(auto)]
+
 ghost use Rattle.std.specs.Prelude.{◌≡◌};
 ghost use Rattle.refusal.specs.Refusal.{number_of, refuse};
 ghost use Rattle.sizes.specs.Sizes.{no_sizes, size_or_none, sizes, page_sizes, segment_sizes, radix_sizes, sizes_outcome};

@@ -1,4 +1,6 @@
 // Lists of strings, each ended by its zero byte (A3). Every function takes any slices.
+#![tactic(auto)]
+
 ghost use Rattle.std.specs.Prelude.{◌≡◌};
 ghost use Rattle.stringlist.specs.StringList.{is_whole, split_at_zeros, string_place, is_only_string};
 ghost use Rattle.stringlist.specs.Parts.{stop_in};

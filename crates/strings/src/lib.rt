@@ -1,4 +1,6 @@
 // Strings that end in a zero byte, and equal runs of bytes. Every function takes any slices and any place.
+#![tactic(auto)]
+
 ghost use Rattle.std.specs.Prelude.{◌≡◌};
 ghost use Rattle.strings.specs.Strings.{text_at, ending_of, same_bytes};
 

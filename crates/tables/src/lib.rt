@@ -1,4 +1,6 @@
 // Tables of sets of positions: a row for each position, the rows of dependencies, and the positions whose rows are inside a set.
+#![tactic(auto)]
+
 ghost use Rattle.std.specs.Prelude.{◌≡◌, ◌≤◌, ◌<◌, min};
 ghost use Rattle.record.specs.Record.{most_features, most_dependencies};
 ghost use Rattle.tables.specs.Tables.{row_or_none, dependency_table, rows_inside};

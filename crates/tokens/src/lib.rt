@@ -1,4 +1,6 @@
 // A cursor over a block of tokens.
+#![tactic(auto)]
+
 ghost use Rattle.std.specs.Prelude.{◌≡◌, ◌+◌, ◌<◌, ◌≤◌, ◌^◌};
 ghost use Rattle.refusal.specs.Checks.{fault_of};
 ghost use Rattle.tokens.specs.Steps.{padded as padded_to, property_at, step_at, step_number, token_checks};

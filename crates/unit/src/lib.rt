@@ -1,4 +1,6 @@
 // Unit text of a CPU: a number in hexadecimal.
+#![tactic(auto)]
+
 ghost use Rattle.std.specs.Prelude.{◌≡◌, length};
 ghost use Rattle.unit.specs.Hex.{digit_count, read_hex, write_hex, after_hex};
 ghost use Rattle.unit.specs.Unit.{read_unit, write_unit, after_unit, hex_outcome, unit_outcome, length_outcome};

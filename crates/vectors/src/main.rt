@@ -3,6 +3,8 @@
 // A vector is its kind (one byte), its length (four bytes, big-endian) and that many bytes. Its line has the kind, the
 // refusal number and the numbers of the answer. `tests/vectors/make.py` makes the vectors and the lines that are to
 // come, and its modules list the kinds. Whatever is no vector ends the run with the line `bad vector`.
+#![tactic(auto)]
+
 mod cpu;
 mod line;
 mod queries;

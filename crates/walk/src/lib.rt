@@ -1,4 +1,6 @@
 // The walk over a tree: its header, and then its tokens, nested to sixteen levels.
+#![tactic(auto)]
+
 ghost use Rattle.std.specs.Prelude.{◌≡◌, ◌+◌, ◌-◌, ◌<◌, ◌≤◌, length as length-of, take, drop, []};
 ghost use Rattle.refusal.specs.Refusal.{number_of, fault, refuse_at};
 ghost use Rattle.properties.specs.Properties.{read_properties, properties_outcome};

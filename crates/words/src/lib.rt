@@ -1,4 +1,6 @@
 // Capability words, HFSCR and FSCR of an enabled set.
+#![tactic(auto)]
+
 ghost use Rattle.std.specs.Prelude.{◌≡◌, ◌&&◌};
 ghost use Rattle.refusal.specs.Refusal.{refuse, number_of};
 ghost use Rattle.words.specs.Words.{no_words, words as words_answer, words_outcome};
