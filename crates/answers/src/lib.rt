@@ -30,7 +30,7 @@ use words::FeatureWords;
 
 // A number, or 0 with the sizes; zeros beside a number.
 #[repr(C)]
-#[derive(Drop)]
+#[derive(Clone, Copy)]
 pub struct YebkuzanSizes {
     pub number: u32,
     pub table: SizeTable,
@@ -38,7 +38,7 @@ pub struct YebkuzanSizes {
 
 // A number, or 0 with the segments' page sizes; zeros beside a number.
 #[repr(C)]
-#[derive(Drop)]
+#[derive(Clone, Copy)]
 pub struct YebkuzanSegments {
     pub number: u32,
     pub table: SegmentTable,
@@ -46,7 +46,7 @@ pub struct YebkuzanSegments {
 
 // A number, or 0 with the radix encodings; zeros beside a number.
 #[repr(C)]
-#[derive(Drop)]
+#[derive(Clone, Copy)]
 pub struct YebkuzanRadixEncodings {
     pub number: u32,
     pub table: RadixTable,
@@ -54,7 +54,7 @@ pub struct YebkuzanRadixEncodings {
 
 // A number, or 0 with the attributes; zeros beside a number.
 #[repr(C)]
-#[derive(Drop)]
+#[derive(Clone, Copy)]
 pub struct YebkuzanPaFeatures {
     pub number: u32,
     pub table: PaTable,
@@ -62,7 +62,7 @@ pub struct YebkuzanPaFeatures {
 
 // A number, or 0 with the bytes; zeros beside a number.
 #[repr(C)]
-#[derive(Drop)]
+#[derive(Clone, Copy)]
 pub struct YebkuzanPiFeatures {
     pub number: u32,
     pub table: PiTable,
@@ -70,7 +70,7 @@ pub struct YebkuzanPiFeatures {
 
 // A number, or 0 with the frequency; 0 beside a number.
 #[repr(C)]
-#[derive(Drop)]
+#[derive(Clone, Copy)]
 pub struct YebkuzanBusFrequency {
     pub number: u32,
     pub frequency: u64,
@@ -78,7 +78,7 @@ pub struct YebkuzanBusFrequency {
 
 // A number, or 0 with the unit number; 0 beside a number.
 #[repr(C)]
-#[derive(Drop)]
+#[derive(Clone, Copy)]
 pub struct YebkuzanUnit {
     pub number: u32,
     pub unit: u32,
@@ -86,7 +86,7 @@ pub struct YebkuzanUnit {
 
 // A number, or 0 with the place of a string in a list; 0 beside a number.
 #[repr(C)]
-#[derive(Drop)]
+#[derive(Clone, Copy)]
 pub struct YebkuzanStringPlace {
     pub number: u32,
     pub place: usize,
@@ -94,7 +94,7 @@ pub struct YebkuzanStringPlace {
 
 // A number, or 0 with the set of permitted positions; zeros beside a number.
 #[repr(C)]
-#[derive(Drop)]
+#[derive(Clone, Copy)]
 pub struct YebkuzanPermitted {
     pub number: u32,
     pub set: Set,
@@ -102,7 +102,7 @@ pub struct YebkuzanPermitted {
 
 // A number, or 0 with the enabled set and its count; zeros beside a number.
 #[repr(C)]
-#[derive(Drop)]
+#[derive(Clone, Copy)]
 pub struct YebkuzanEnabled {
     pub number: u32,
     pub count: u32,
@@ -111,7 +111,7 @@ pub struct YebkuzanEnabled {
 
 // A number, or 0 with the reach table; zeros beside a number.
 #[repr(C)]
-#[derive(Drop)]
+#[derive(Clone, Copy)]
 pub struct YebkuzanReach {
     pub number: u32,
     pub rows: Rows,
@@ -119,7 +119,7 @@ pub struct YebkuzanReach {
 
 // A number, or 0 with how many bytes were put into the front of a lent buffer; 0 beside a number.
 #[repr(C)]
-#[derive(Drop)]
+#[derive(Clone, Copy)]
 pub struct YebkuzanWritten {
     pub number: u32,
     pub length: u32,
@@ -127,7 +127,7 @@ pub struct YebkuzanWritten {
 
 // A number, or 0 with the two capability words, HFSCR and FSCR; zeros beside a number.
 #[repr(C)]
-#[derive(Drop)]
+#[derive(Clone, Copy)]
 pub struct YebkuzanWords {
     pub number: u32,
     pub hwcap_first: u32,

@@ -39,7 +39,7 @@ pub const LATER_BYTES: usize = 230;
 
 // The attributes of `ibm,pa-features`; each flag is 0 or 1. Bytes 0 to 5 are raw, and those from `FIRST_LATER` on.
 #[repr(C)]
-#[derive(Drop)]
+#[derive(Clone, Copy)]
 pub struct PaTable {
     pub raw: [u8; 6],
     pub data_streams: u8,
@@ -54,7 +54,7 @@ pub struct PaTable {
     pub raw_later: [u8; LATER_BYTES],
 }
 
-#[derive(Drop)]
+#[derive(Clone, Copy)]
 pub struct PaFeatures {
     pub refusal: Refusal,
     pub table: PaTable,
@@ -62,26 +62,26 @@ pub struct PaFeatures {
 
 // The bytes of `ibm,pi-features`, and zeros.
 #[repr(C)]
-#[derive(Drop)]
+#[derive(Clone, Copy)]
 pub struct PiTable {
     pub count: u32,
     pub bytes: [u8; MOST_BYTES],
 }
 
-#[derive(Drop)]
+#[derive(Clone, Copy)]
 pub struct PiFeatures {
     pub refusal: Refusal,
     pub table: PiTable,
 }
 
-#[derive(Drop)]
+#[derive(Clone, Copy)]
 pub struct BusFrequency {
     pub refusal: Refusal,
     pub frequency: u64,
 }
 
 // Where the bytes of the one descriptor of type 0 stand.
-#[derive(Drop)]
+#[derive(Clone, Copy)]
 struct TypeZero {
     refusal: Refusal,
     from: usize,

@@ -13,7 +13,7 @@ pub const PARENT_BLOCK: u32 = 2;
 // A number, or 0 with the block in which the property is, and the offset and the length of the property there, from its token to its
 // value's last byte; zeros beside a number.
 #[repr(C)]
-#[derive(Drop)]
+#[derive(Clone, Copy)]
 pub struct YebkuzanProperty {
     pub number: u32,
     pub block: u32,

@@ -7,7 +7,7 @@ use record::Record;
 
 // A number with its place, or 0 with the record; a record of no features beside a number.
 #[repr(C)]
-#[derive(Drop)]
+#[derive(Clone, Copy)]
 pub struct YebkuzanRead {
     pub number: u32,
     pub place: u32,

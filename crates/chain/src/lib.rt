@@ -17,7 +17,7 @@ use refusal::Refusal;
 use tables::TABLE_WORDS;
 
 // A refusal, or how many positions the chain has; 0 beside a refusal.
-#[derive(Drop)]
+#[derive(Clone, Copy)]
 pub struct ChainTold {
     pub refusal: Refusal,
     pub length: u32,
@@ -25,7 +25,7 @@ pub struct ChainTold {
 
 // What sweeps leave of the permitted set, the set itself first: the first `held` of these layers hold a position. The next does not hold
 // it; or the position is enabled.
-#[derive(Drop)]
+#[derive(Clone, Copy)]
 struct Layers {
     enabled: bool,
     held: usize,
@@ -33,7 +33,7 @@ struct Layers {
 }
 
 // The positions whose dependencies are all below a bound, and how many dependencies each of these has; 0 for every other position.
-#[derive(Drop)]
+#[derive(Clone, Copy)]
 struct Bounded {
     set: Set,
     counts: [u8; MOST_FEATURES],

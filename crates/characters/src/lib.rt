@@ -5,7 +5,7 @@ ghost use Rattle.std.specs.Prelude.{◌≡◌};
 ghost use Rattle.characters.specs.Characters.{entry_of, character_table, is_node_entry, is_property_entry, hex_value, hex_digit};
 
 // What a character is as a hex digit: a value below 16, or none.
-#[derive(Drop)]
+#[derive(Clone, Copy)]
 pub enum HexValue {
     Digit(u8),
     None,

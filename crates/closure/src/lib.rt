@@ -18,7 +18,7 @@ use positions::{Position, Set, WORDS};
 use record::{MOST_DEPENDENCIES, MOST_FEATURES, SLOTS};
 
 // What is left of a set, and those of it that have dependencies, which were members when they were last tested.
-#[derive(Drop)]
+#[derive(Clone, Copy)]
 struct Left {
     members: Set,
     needy: Set,

@@ -17,7 +17,7 @@ use record::Record;
 use refusal::Refusal;
 
 // A refusal, or the enabled set and its count; zeros beside a refusal.
-#[derive(Drop)]
+#[derive(Clone, Copy)]
 pub struct Enabled {
     pub refusal: Refusal,
     pub set: Set,

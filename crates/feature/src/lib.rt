@@ -15,7 +15,7 @@ use record::{Feature, MOST_FEATURES};
 use refusal::Refusal;
 
 // A property of one cell: its refusal; where there is none, whether it is given, and its number, zero where it is not.
-#[derive(Drop)]
+#[derive(Clone, Copy)]
 pub struct CellRead {
     pub refusal: Refusal,
     pub given: bool,
@@ -23,7 +23,7 @@ pub struct CellRead {
 }
 
 // The cells of who may use a feature, and of its supports.
-#[derive(Drop)]
+#[derive(Clone, Copy)]
 pub struct SupportCells {
     pub usable_privilege: CellRead,
     pub hv_support: CellRead,
@@ -31,7 +31,7 @@ pub struct SupportCells {
 }
 
 // The cells of a feature's bit numbers.
-#[derive(Drop)]
+#[derive(Clone, Copy)]
 pub struct BitCells {
     pub hfscr_bit_nr: CellRead,
     pub fscr_bit_nr: CellRead,
@@ -39,7 +39,7 @@ pub struct BitCells {
 }
 
 // The cells of a feature's properties; of its dependencies, how many.
-#[derive(Drop)]
+#[derive(Clone, Copy)]
 pub struct FeatureCells {
     pub isa: CellRead,
     pub support: SupportCells,

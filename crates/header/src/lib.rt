@@ -19,7 +19,7 @@ const MAGIC: usize = 0xd00dfeed;
 const VERSION: usize = 17;
 
 // Where the structure block and the strings block begin and end, as places in the tree.
-#[derive(Drop)]
+#[derive(Clone, Copy)]
 pub struct Blocks {
     pub start: usize,
     pub end: usize,
@@ -27,7 +27,7 @@ pub struct Blocks {
     pub limit: usize,
 }
 
-#[derive(Drop)]
+#[derive(Clone, Copy)]
 pub struct Header {
     pub refusal: Refusal,
     pub place: usize,

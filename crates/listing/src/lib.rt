@@ -32,7 +32,7 @@ pub const LONGEST_LINE: usize = 2 + 1 + MOST_NODE_NAME + 5 + MOST_FEATURES * (MO
 const ALL_BITS: u64 = 0xffffffffffffffff;
 
 // A refusal, or how many bytes of a lent buffer a line took; 0 beside a refusal.
-#[derive(Drop)]
+#[derive(Clone, Copy)]
 pub struct LineWritten {
     pub refusal: Refusal,
     pub length: u32,

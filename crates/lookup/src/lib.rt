@@ -16,7 +16,7 @@ use tokens::{Cursor, Step};
 const HEAD: usize = 12;
 
 // Where a property is: from its token to its value's last byte, in the one block or the other.
-#[derive(Drop)]
+#[derive(Clone, Copy)]
 pub enum Found {
     InCpu { from: usize, to: usize },
     InParent { from: usize, to: usize },
@@ -24,7 +24,7 @@ pub enum Found {
 }
 
 // What stands at a place of a block: a property whose name is good and new, a NOP, or what has no place there.
-#[derive(Drop)]
+#[derive(Clone, Copy)]
 enum Entry {
     Named {
         offset: usize,
@@ -37,21 +37,21 @@ enum Entry {
 }
 
 // Where one block has the property.
-#[derive(Drop)]
+#[derive(Clone, Copy)]
 enum Hit {
     At { from: usize, to: usize },
     Missing,
 }
 
 // A block, read to its end: where it has the property, or why it does not read as properties.
-#[derive(Drop)]
+#[derive(Clone, Copy)]
 enum BlockRead {
     Properties(Hit),
     Refused(Refusal),
 }
 
 // A property, looked up in both blocks: a refusal, or where it is; nowhere beside a refusal.
-#[derive(Drop)]
+#[derive(Clone, Copy)]
 pub struct Looked {
     pub refusal: Refusal,
     pub found: Found,

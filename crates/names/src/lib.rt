@@ -13,7 +13,7 @@ pub const MOST_PROPERTY_NAME: usize = 63;
 const AT_SIGN: u8 = 64;
 
 // A name that is as it should be, with its length; or one that is not.
-#[derive(Drop)]
+#[derive(Clone, Copy)]
 pub enum NameRead {
     Good(usize),
     Bad,

@@ -25,7 +25,7 @@ use strings::Ending;
 use tokens::{Cursor, Step};
 
 // What a node has of a property: nothing, or where its value begins and how many bytes it has.
-#[derive(Drop)]
+#[derive(Clone, Copy)]
 pub enum Held {
     Missing,
     At { from: usize, length: usize },
@@ -33,14 +33,14 @@ pub enum Held {
 
 // The token at a place of a node's contents: a child begins, with where its name begins and what is behind its begin token; or it is
 // passed, with how deep the tokens behind it are inside the node's own nodes.
-#[derive(Drop)]
+#[derive(Clone, Copy)]
 enum Move {
     Child { at: usize, name: usize, next: usize },
     Past { depth: usize, next: usize },
 }
 
 // Where a node's contents begin, the tokens behind its begin token: nowhere, where its name does not end.
-#[derive(Drop)]
+#[derive(Clone, Copy)]
 pub enum Contents {
     At(usize),
     Nowhere,
@@ -48,7 +48,7 @@ pub enum Contents {
 
 // A node: its begin token's offset, and where its name and its contents begin; if the name does not end, the contents' place is the
 // block's end, where no token is left.
-#[derive(Drop)]
+#[derive(Clone, Copy)]
 pub struct NodePlace {
     pub at: usize,
     pub name: usize,
@@ -56,7 +56,7 @@ pub struct NodePlace {
 }
 
 // The children of a node, in tree order: the places of at most 64, whether there is one more, and where that begins.
-#[derive(Drop)]
+#[derive(Clone, Copy)]
 pub struct ChildPlaces {
     pub count: usize,
     pub more: bool,

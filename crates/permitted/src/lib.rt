@@ -24,7 +24,7 @@ pub const HYPERVISOR: u32 = 2;
 // Document 01: "Grants are four 64-bit masks": the features that the hypervisor supports by its own code, the same for the system, and
 // the HFSCR and FSCR bits that may be set.
 #[repr(C)]
-#[derive(Drop)]
+#[derive(Clone, Copy)]
 pub struct Grants {
     pub hypervisor: Set,
     pub system: Set,
@@ -33,7 +33,7 @@ pub struct Grants {
 }
 
 // A refusal, or the set of permitted positions; the empty set beside a refusal.
-#[derive(Drop)]
+#[derive(Clone, Copy)]
 pub struct PermittedFeatures {
     pub refusal: Refusal,
     pub set: Set,
@@ -41,7 +41,7 @@ pub struct PermittedFeatures {
 
 // A refusal, or the set of permitted positions and the number of dependencies of each feature; zeros beside a refusal, and zeros from the
 // count on.
-#[derive(Drop)]
+#[derive(Clone, Copy)]
 pub struct Examined {
     pub refusal: Refusal,
     pub set: Set,

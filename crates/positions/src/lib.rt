@@ -22,13 +22,13 @@ pub const WORDS: usize = 1;
 
 // Bit i % 64 of word i / 64 is set where position i is a member.
 #[repr(C)]
-#[derive(Drop)]
+#[derive(Clone, Copy)]
 pub struct Set {
     pub words: [u64; WORDS],
 }
 
 // What a search among positions answers: a position, or that there is none.
-#[derive(Drop)]
+#[derive(Clone, Copy)]
 pub enum Position {
     Nowhere,
     At(usize),

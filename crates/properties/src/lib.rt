@@ -21,14 +21,14 @@ use refusal::Refusal;
 use tokens::{Cursor, Step};
 
 // Where a strings block begins and ends, in the bytes that hold it.
-#[derive(Drop)]
+#[derive(Clone, Copy)]
 pub struct StringsBlock {
     pub from: usize,
     pub limit: usize,
 }
 
 // The properties of one node: a refusal with its place, or the place of the token behind them; 0 beside a refusal.
-#[derive(Drop)]
+#[derive(Clone, Copy)]
 pub struct PropertiesRead {
     pub refusal: Refusal,
     pub place: usize,

@@ -10,7 +10,7 @@ use sizes::AP_BIT;
 
 // A page size, by its exponent, and its AP encoding.
 #[repr(C)]
-#[derive(Drop)]
+#[derive(Clone, Copy)]
 pub struct RadixEncoding {
     pub ap: u32,
     pub exponent: u32,
@@ -18,13 +18,13 @@ pub struct RadixEncoding {
 
 // The encodings of a table, and zeros.
 #[repr(C)]
-#[derive(Drop)]
+#[derive(Clone, Copy)]
 pub struct RadixTable {
     pub count: u32,
     pub encodings: [RadixEncoding; 16],
 }
 
-#[derive(Drop)]
+#[derive(Clone, Copy)]
 pub struct RadixEncodings {
     pub refusal: Refusal,
     pub table: RadixTable,

@@ -16,7 +16,7 @@ use refusal::Refusal;
 use tables::{Rows, TABLE_WORDS};
 
 // A refusal, or the reach table; zeros beside a refusal.
-#[derive(Drop)]
+#[derive(Clone, Copy)]
 pub struct ReachTable {
     pub refusal: Refusal,
     pub rows: Rows,

@@ -11,7 +11,7 @@ use record::{MOST_DEPENDENCIES, MOST_FEATURES, SLOTS};
 use refusal::Refusal;
 
 // What the dependencies of all features find: the refusal of the first that is refused and its place.
-#[derive(Drop)]
+#[derive(Clone, Copy)]
 pub(crate) struct Finding {
     pub(crate) refusal: Refusal,
     pub(crate) place: usize,

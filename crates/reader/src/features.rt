@@ -35,14 +35,14 @@ const HIGHEST_PHANDLE: u32 = 0xfffffffe;
 const NO_PHANDLE: u64 = 0x100000000;
 
 // A feature: its refusal, and the feature where there is none.
-#[derive(Drop)]
+#[derive(Clone, Copy)]
 pub(crate) struct FeatureRead {
     pub(crate) refusal: Refusal,
     pub(crate) feature: Feature,
 }
 
 // All features of a container: the refusal of the first that is refused and its place, and the features where there is none.
-#[derive(Drop)]
+#[derive(Clone, Copy)]
 pub(crate) struct FeaturesRead {
     pub(crate) refusal: Refusal,
     pub(crate) place: usize,

@@ -34,7 +34,7 @@ use refusal::Refusal;
 use walk::Containers;
 
 // What a reading answers: a refusal with its place, or the feature record; a refused one has a record of no features.
-#[derive(Drop)]
+#[derive(Clone, Copy)]
 pub struct Read {
     pub refusal: Refusal,
     pub place: usize,

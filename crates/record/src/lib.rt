@@ -22,7 +22,7 @@ pub const HIGHEST_HWCAP_BIT: u32 = 63;
 // A feature: its begin token's offset, which properties were given, the cells of its properties, zero where absent, and how many
 // dependencies it has.
 #[repr(C)]
-#[derive(Drop)]
+#[derive(Clone, Copy)]
 pub struct Feature {
     pub offset: u32,
     pub given: u32,
@@ -39,7 +39,7 @@ pub struct Feature {
 
 // Document 01: "a record of at most 64 features with its count"; the dependencies of the feature at a position are in its sixteen slots.
 #[repr(C)]
-#[derive(Drop)]
+#[derive(Clone, Copy)]
 pub struct Record {
     pub isa: u32,
     pub count: u32,
@@ -48,7 +48,7 @@ pub struct Record {
 }
 
 // The properties of a feature. Each has its bit in the word `given`, in this order from bit 0 on.
-#[derive(Drop)]
+#[derive(Clone, Copy)]
 pub enum Property {
     Isa,
     UsablePrivilege,
@@ -62,7 +62,7 @@ pub enum Property {
 }
 
 // What a feature has of a property: nothing, or a number. Absent and zero differ.
-#[derive(Drop)]
+#[derive(Clone, Copy)]
 pub enum Cell {
     Absent,
     Given(u32),

@@ -27,7 +27,7 @@ pub const MOST_PAGES: u32 = 8;
 
 // A page size and its encoding in a page table entry.
 #[repr(C)]
-#[derive(Drop)]
+#[derive(Clone, Copy)]
 pub struct Page {
     pub exponent: u32,
     pub encoding: u32,
@@ -35,7 +35,7 @@ pub struct Page {
 
 // A base page size, its SLB encoding, and its pages; zeros from the count on.
 #[repr(C)]
-#[derive(Drop)]
+#[derive(Clone, Copy)]
 pub struct Descriptor {
     pub base: u32,
     pub encoding: u32,
@@ -44,13 +44,13 @@ pub struct Descriptor {
 }
 
 #[repr(C)]
-#[derive(Drop)]
+#[derive(Clone, Copy)]
 pub struct SegmentTable {
     pub count: u32,
     pub descriptors: [Descriptor; 8],
 }
 
-#[derive(Drop)]
+#[derive(Clone, Copy)]
 pub struct SegmentPages {
     pub refusal: Refusal,
     pub table: SegmentTable,

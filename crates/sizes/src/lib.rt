@@ -22,7 +22,7 @@ pub const NO_SIZE: u32 = 0xffffffff;
 pub const AP_BIT: u32 = 0x20000000;
 
 // What stands in a place of a table: a size, by its exponent, or none.
-#[derive(Drop)]
+#[derive(Clone, Copy)]
 pub enum Size {
     Exponent(u32),
     None,
@@ -31,20 +31,20 @@ pub enum Size {
 // The cells of a table, each in its place, and zeros. Of page sizes each is an exponent; of segment sizes `size_or_none` says what it is;
 // of radix encodings the exponent is what is below `AP_BIT`.
 #[repr(C)]
-#[derive(Drop)]
+#[derive(Clone, Copy)]
 pub struct SizeTable {
     pub count: u32,
     pub exponents: [u32; MOST_SIZES],
 }
 
-#[derive(Drop)]
+#[derive(Clone, Copy)]
 pub struct Sizes {
     pub refusal: Refusal,
     pub table: SizeTable,
 }
 
 // How the cells of a property read.
-#[derive(Drop)]
+#[derive(Clone, Copy)]
 enum Rule {
     SizeOnly,
     SizeOrNone,

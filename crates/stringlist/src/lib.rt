@@ -9,7 +9,7 @@ use positions::Position;
 use strings::Ending;
 
 // Where a scan of strings stops: at one, by its place and where it begins and ends; or behind the last, with how many there are.
-#[derive(Drop)]
+#[derive(Clone, Copy)]
 enum Stop {
     At {
         place: usize,

@@ -16,13 +16,13 @@ const NOP: u32 = 4;
 const END: u32 = 9;
 
 // Document 01: "a place in the tree that moves on token by token".
-#[derive(Drop)]
+#[derive(Clone, Copy)]
 pub struct Cursor {
     pub at: usize,
 }
 
 // A token, with the cursor of what follows it: a begin token's name, or the next token.
-#[derive(Drop)]
+#[derive(Clone, Copy)]
 pub enum Step {
     BeginNode {
         at: usize,

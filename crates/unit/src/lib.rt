@@ -15,21 +15,21 @@ pub const MOST_DIGITS: usize = 16;
 pub const LARGEST_UNIT: u64 = 4294967295;
 
 // A number read from text.
-#[derive(Drop)]
+#[derive(Clone, Copy)]
 pub struct HexRead {
     pub refusal: Refusal,
     pub value: u64,
 }
 
 // A unit number read from text.
-#[derive(Drop)]
+#[derive(Clone, Copy)]
 pub struct UnitRead {
     pub refusal: Refusal,
     pub number: u32,
 }
 
 // How many bytes of a lent buffer a text took.
-#[derive(Drop)]
+#[derive(Clone, Copy)]
 pub struct TextWritten {
     pub refusal: Refusal,
     pub length: usize,

@@ -14,26 +14,26 @@ const FEATURE_NUMBERS: usize = 11;
 // 2^57: a number below it has room for seven bits more.
 const SEVEN_LEFT: u64 = 0x200000000000000;
 
-#[derive(Drop)]
+#[derive(Clone, Copy)]
 pub(crate) struct Number {
     pub value: u64,
     pub next: usize,
 }
 
-#[derive(Drop)]
+#[derive(Clone, Copy)]
 pub(crate) struct RecordRead {
     pub record: Record,
     pub next: usize,
 }
 
-#[derive(Drop)]
+#[derive(Clone, Copy)]
 struct FeatureRead {
     feature: Feature,
     next: usize,
 }
 
 // A record with a level and grants.
-#[derive(Drop)]
+#[derive(Clone, Copy)]
 pub(crate) struct Asked {
     pub record: Record,
     pub level: u32,
@@ -41,7 +41,7 @@ pub(crate) struct Asked {
     pub next: usize,
 }
 
-#[derive(Drop)]
+#[derive(Clone, Copy)]
 pub(crate) struct RowsRead {
     pub rows: Rows,
     pub next: usize,

@@ -11,7 +11,7 @@ const LENGTHS: usize = 12;
 const LENGTH: usize = 4;
 
 // Where the CPU node's block of a lookup ends, its parent's, and the strings block.
-#[derive(Drop)]
+#[derive(Clone, Copy)]
 struct Ends {
     cpu: usize,
     parent: usize,

@@ -25,7 +25,7 @@ use tokens::{Cursor, Step};
 pub const MOST_LEVELS: usize = 16;
 
 // How many containers a tree has, up to two, and where their begin tokens stand; zero where there is none.
-#[derive(Drop)]
+#[derive(Clone, Copy)]
 pub struct Containers {
     pub count: u32,
     pub first: usize,
@@ -33,13 +33,13 @@ pub struct Containers {
 }
 
 // What is known of an accepted tree.
-#[derive(Drop)]
+#[derive(Clone, Copy)]
 pub struct Layout {
     pub blocks: Blocks,
     pub containers: Containers,
 }
 
-#[derive(Drop)]
+#[derive(Clone, Copy)]
 pub struct Checked {
     pub refusal: Refusal,
     pub place: usize,
@@ -47,7 +47,7 @@ pub struct Checked {
 }
 
 // A child of a node: its begin token, its name and how many characters that has, and what follows.
-#[derive(Drop)]
+#[derive(Clone, Copy)]
 struct ChildNode {
     at: usize,
     name: usize,
@@ -56,7 +56,7 @@ struct ChildNode {
 }
 
 // What stands next in a node: something to skip, a child, its end, or a fault.
-#[derive(Drop)]
+#[derive(Clone, Copy)]
 enum Item {
     Skip(Cursor),
     Child(ChildNode),
@@ -65,7 +65,7 @@ enum Item {
 }
 
 // The contents of a node: what follows its end token, or where the walk stops.
-#[derive(Drop)]
+#[derive(Clone, Copy)]
 enum NodeRead {
     Past { next: Cursor, found: Containers },
     Stop { refusal: Refusal, at: usize },
@@ -265,7 +265,7 @@ fn root_at(tree: &[u8], b: Blocks, start: usize) -> NodeRead
 }
 
 // The verdict on what follows the root.
-#[derive(Drop)]
+#[derive(Clone, Copy)]
 struct Judged {
     refusal: Refusal,
     place: usize,

@@ -12,7 +12,7 @@ use record::{Cell, Feature, Property, Record};
 use refusal::Refusal;
 
 // A refusal, or the two capability words, HFSCR and FSCR; zeros beside a refusal.
-#[derive(Drop)]
+#[derive(Clone, Copy)]
 pub struct FeatureWords {
     pub refusal: Refusal,
     pub hwcap_first: u32,
@@ -22,7 +22,7 @@ pub struct FeatureWords {
 }
 
 // The bits of all enabled features, before level and grants.
-#[derive(Drop)]
+#[derive(Clone, Copy)]
 struct Bits {
     hwcap: u64,
     hfscr: u64,
@@ -30,7 +30,7 @@ struct Bits {
 }
 
 // The two capability words, HFSCR and FSCR.
-#[derive(Drop)]
+#[derive(Clone, Copy)]
 struct Values {
     first: u32,
     second: u32,

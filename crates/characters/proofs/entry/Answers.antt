@@ -1,0 +1,6 @@
+-- `characters::entry` meets its contract. Assumes nothing.
+use Rattle.characters.proofs.Table.{found}
+use Rattle.characters.proofs.entry.Goals as goal
+
+pub returns : goal.returns
+returns c = found c.ranges.b.fits c.entries-table.ensures
