@@ -1,0 +1,19 @@
+-- `tables::put_row` meets its contract. The loop: the words passed are replaced. Assumes nothing.
+use Prim.Native.Nat.{◌-◌}
+use mathlib.Core.Path.{sym, ◌∙◌}
+use native.Mathlib.Omega.{arith}
+use Rattle.tables.proofs.RowLaws.{put-none, put-more, put_all, row-put-low, row-put-past}
+use borrow.Author.Rules.{rules}
+use Rattle.tables.proofs.put_row.Goals as goal
+
+pub returns-then-i-ge-MOST_FEATURES : goal.returns-then-i-ge-MOST_FEATURES
+returns-then-i-ge-MOST_FEATURES c = row-put-past _ _ _ c.if-i-ge-MOST_FEATURES.true
+
+pub loop-w-init : goal.loop-w-init
+loop-w-init c = (put-none _ _ _, omega arith)
+
+pub loop-w-preserved : goal.loop-w-preserved
+loop-w-preserved c = (put-more _ _ _ _ _ (search rules) c.loop-w.invariant.0 (omega arith), search rules)
+
+pub returns : goal.returns
+returns c = put_all _ _ _ _ _ (search rules) c.loop-w.invariant.0 (omega arith) ∙ sym (row-put-low _ _ _ c.loop-w.invariant.1)
