@@ -1,15 +1,14 @@
 -- `sizes::sizes_by` meets its contract. The loop's invariant is `Read`: the cells passed are in the row, and those left decide the
 -- refusal. Assumes nothing.
 use mathlib.Core.Path.{sym, ◌∙◌}
-use mathlib.Core.Logic.{⊎_elim}
 use native.Mathlib.Omega.{arith}
-use Prim.Native.Nat.{◌-◌}
 use Rattle.refusal.proofs.Checks.{stops, tests}
 use Rattle.refusal.specs.Refusal.{refuse}
 use Rattle.cells.proofs.CellRows.{count-cells}
 use Rattle.sizes.specs.Sizes.{no_sizes, sizes, plain_checks, size_checks}
 use Rattle.sizes.proofs.Ascending.{read_none, read-gap, read-large, read-falls, read-size, read_all, read-gaps}
 use Rattle.sizes.proofs.sizes_by.Goals as goal
+use Rattle.sizes.proofs.sizes_by.Goals.{in-Exponent+else-exponent-gt-LARGEST_EXPONENT+else-exponent-least, in-None}
 
 pub returns-then-value-eq0 : goal.returns-then-value-eq0
 unfolding sizes size_checks plain_checks
@@ -42,9 +41,11 @@ pub loop-i-preserved : goal.loop-i-preserved
 loop-i-preserved c =
     let inv = c.loop-i.invariant in
     let cell = c.cell_at-cell.ensures in
-    let size = sym c.size_by.ensures in
-    ⊎_elim (λ w. rw w.5 (read-size inv (omega arith) cell (size ∙ w.1.given.1) w.3.left w.4.left))
-    (λ w. rw w.2 (read-gap inv (omega arith) cell (size ∙ w.1.given.1))) c.match-size_by.branch
+    elim c.match-size_by.branch [
+      | in-Exponent+else-exponent-gt-LARGEST_EXPONENT+else-exponent-least w ↦
+          rw w.least-is (read-size inv (omega arith) cell (sym c.size_by.ensures ∙ w.in-Exponent.is) (omega arith) (omega arith))
+      | in-None w ↦ rw w.least-is (read-gap inv (omega arith) cell (sym c.size_by.ensures ∙ w.in-None.is))
+    ]
 
 pub returns-then-least-eq0 : goal.returns-then-least-eq0
 returns-then-least-eq0 c = c.refused-then-least-eq0.ensures ∙ read-gaps c.loop-i.invariant (omega arith) c.if-least-eq0.true
