@@ -51,7 +51,7 @@ module _ (r : Record) (i : ℕ) where
       record {
         hfscr = in-range _ _ _ hv;
         fscr = in-range _ _ _ os;
-        hwcap = in-range _ _ _ (fits-capability feature bits);
+        hwcap = in-range _ false _ (fits-capability feature bits);
         hfscr_given = is-given _ _ _ hv;
         fscr_given = is-given _ _ _ os;
         few = leb-true number most_dependencies (and_left (leb number most_dependencies) (every number below) slots);
