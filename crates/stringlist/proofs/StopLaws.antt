@@ -1,5 +1,5 @@
 -- Where a scan of strings stops, string by string and as a whole. Assumes nothing.
-use mathlib.Core.Path.{◌≡◌, refl, sym, ap, ◌∙◌}
+use mathlib.Core.Path.{◌≡◌, refl, sym, ap, subst, ◌∙◌}
 use mathlib.Core.Bool.{Bool, true, false, ◌||◌, cond}
 use mathlib.Core.List.{List, [], ◌∷◌, ◌++◌}
 use Prim.Native.Nat.{ℕ, suc, zero, ◌+◌, ◌-◌, ◌<◌, ◌≤◌}
@@ -181,6 +181,9 @@ stop-string (t ∷ ts) h zero place from l =
     let f : from + 0 ≡ from = omega arith in
     rw (none_is t h.0, e, f, eq-eqb place place refl)
 stop-string (t ∷ ts) h (suc k) place from l =
-    let e : place + suc k ≡ place + 1 + k = omega arith in
+    let e : place + 1 + k ≡ place + suc k = omega arith in
     let n : from + length (t ++ 0 ∷ strings_bytes (take k ts)) ≡ from + length t + 1 + length (strings_bytes (take k ts)) = omega (arith, length-append t (0 ∷ strings_bytes (take k ts))) in
-    rw (none_is t h.0, e, n, ne_eqb place (place + 1 + k) (λ z. omega arith)) (stop-string ts h.1 k (place + 1) (from + length t + 1) (omega arith))
+    subst
+    (λ (s : ℕ). stop_in (0 ∷ []) s place from (t ∷ ts) ≡ StopsAt s (from + length (t ++ 0 ∷ strings_bytes (take k ts))) (from + length (t ++ 0 ∷ strings_bytes (take k ts)) + length (get_or ts k [])))
+    e
+    (rw (none_is t h.0, n, ne_eqb place (place + 1 + k) (λ z. omega arith)) (stop-string ts h.1 k (place + 1) (from + length t + 1) (omega arith)))
