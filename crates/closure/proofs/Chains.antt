@@ -41,7 +41,7 @@ module _ (num : ℕ → ℕ) (dep : ℕ → ℕ → ℕ) (permitted : ℕ → Bo
   chain-sweeps zero (end e) h = e
   chain-sweeps (suc k) (end e) h = rw e
   chain-sweeps zero (link j l c) h = absurd (omega (arith, chain-positive c))
-  chain-sweeps (suc k) (link {i = i} j l c) h = sweeps-not num dep permitted k i j l (chain-sweeps k c (omega arith))
+  chain-sweeps (suc k) (link {i = i} j l c) h = sweeps-not num dep permitted k i j l (chain-sweeps {i = dep i j} k c (omega arith))
 
   module _ (n : ℕ) (graph : Below n num dep) where
     pub chain-left-out : {i : ℕ} {c : List ℕ} → i < n → Chain num dep permitted i c → enabled num dep permitted n i ≡ false

@@ -11,7 +11,6 @@ use borrow.Author.Tests.{lt-ltb, le-ltb}
 use lib.ListN.{length, get_or, set, take, drop, length-set}
 use lib.Seq.{sets, sets-eq, length-sets, get_or-set_same, get_or-set_other, ext_get_or, length-take-le, take-suc, take_all}
 use Rattle.cells.specs.Buffer.{Stays, written}
-use Rattle.cells.specs.Rows.{each}
 use Rattle.cells.proofs.Rows.{length-each, row-at}
 use Rattle.cells.proofs.Writing.{written-writes, nothing-stays}
 use Rattle.positions.specs.Sets.{set_words, set_of, no_members}

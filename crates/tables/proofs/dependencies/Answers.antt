@@ -1,5 +1,4 @@
 -- `tables::dependencies` meets its contract. The loop: the set has the slots passed. Assumes nothing.
-use Prim.Native.Nat.{◌-◌}
 use mathlib.Core.Path.{◌≡◌, ap, ◌∙◌}
 use native.Mathlib.Omega.{arith}
 use Rattle.positions.specs.Sets.{with_member}

@@ -1,5 +1,4 @@
 -- `tables::dependency_rows` meets its contract. The loop: the rows passed are those of the slots. Assumes nothing.
-use Prim.Native.Nat.{◌-◌}
 use mathlib.Core.Path.{◌∙◌}
 use native.Mathlib.Omega.{arith}
 use Rattle.tables.proofs.RowLaws.{row-put-low}

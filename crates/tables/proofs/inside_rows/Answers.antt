@@ -1,5 +1,4 @@
 -- `tables::inside_rows` meets its contract. The loop: the positions passed are in the set where their rows are inside. Assumes nothing.
-use Prim.Native.Nat.{◌-◌}
 use mathlib.Core.Path.{◌∙◌}
 use native.Mathlib.Omega.{arith}
 use Rattle.tables.proofs.RowLaws.{row_low}

@@ -1,5 +1,4 @@
 -- `tables::put_row` meets its contract. The loop: the words passed are replaced. Assumes nothing.
-use Prim.Native.Nat.{◌-◌}
 use mathlib.Core.Path.{sym, ◌∙◌}
 use native.Mathlib.Omega.{arith}
 use Rattle.tables.proofs.RowLaws.{put-none, put-more, put_all, row-put-low, row-put-past}

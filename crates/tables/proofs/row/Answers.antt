@@ -1,5 +1,4 @@
 -- `tables::row` meets its contract. The loop: the words passed are those of the row. Assumes nothing.
-use Prim.Native.Nat.{◌-◌}
 use mathlib.Core.Path.{sym, ◌∙◌}
 use native.Mathlib.Omega.{arith}
 use Rattle.tables.proofs.RowLaws.{read_none, read_more, read_all, row-past, row_low}

@@ -1,0 +1,39 @@
+-- `closure::next_pass` meets its contract. The loop: what is not to do is seen. Assumes nothing.
+use mathlib.Core.Path.{◌∙◌}
+use native.Mathlib.Omega.{arith}
+use Rattle.tables.proofs.SlotLaws.{used_low}
+use Rattle.closure.proofs.SlotLaws.{slots-in, slots-wider}
+use Rattle.closure.proofs.PickLaws.{picked-member, picked_none}
+use Rattle.closure.proofs.PassLaws.{looked-again, look-tested, looked-all, todo-within, todo-done, todo-less}
+use Rattle.closure.proofs.next_pass.Goals as goal
+
+pub loop-y-init : goal.loop-y-init
+loop-y-init c = (looked-again _ _ c.empty.ensures _ _ c.requires.1, c.requires.1.low)
+
+pub returns-in-Nowhere : goal.returns-in-Nowhere
+returns-in-Nowhere c =
+    let none = picked_none _ c.outermost.ensures c.in-Nowhere.is in
+    let start = c in
+    looked-all _ _ _ c.loop-y.invariant.0 (λ j h. none j (omega (arith, start.requires.0)))
+
+pub tested-y-requires : goal.tested-y-requires
+tested-y-requires c =
+    let picked = picked-member _ c.outermost.ensures c.in-At.is in
+    let used = c.used.ensures ∙ used_low _ _ (omega arith) in (omega arith, omega arith)
+
+pub loop-y-smaller : goal.loop-y-smaller
+loop-y-smaller c =
+    let picked = picked-member _ c.outermost.ensures c.in-At.is in
+    todo-less _ _ c.remove-todo.ensures picked.0 picked.1
+
+pub loop-y-preserved : goal.loop-y-preserved
+loop-y-preserved c =
+    let loop = c in
+    let start = loop in
+    let picked = picked-member _ c.outermost.ensures c.in-At.is in
+    let low = loop.loop-y.invariant.1 _ picked.0 picked.1 in
+    let used = c.used.ensures ∙ used_low _ _ (omega arith) in (
+      look-tested _ _ (slots-wider _ _) start.requires.0 _ low _ _ loop.loop-y.invariant.0 _
+          (λ j h z ne. todo-done _ _ c.remove-todo.ensures j (omega (arith, start.requires.0)) z ne) (slots-in _ _ _ used _) c.tested-y.ensures,
+      λ j h m. loop.loop-y.invariant.1 j h (todo-within _ _ c.remove-todo.ensures j h m),
+    )

@@ -1,0 +1,16 @@
+-- The invariant of `closure::next_pass`.
+use Prim.Native.Nat.{ℕ, ◌<◌}
+use mathlib.Core.Path.{◌≡◌}
+use mathlib.Core.Bool.{true, false}
+use Rattle.positions.specs.Sets.{room, has, member_count}
+use Rattle.closure.specs.Parts.{slots_in}
+use Rattle.closure.proofs.PassLaws.{Looked}
+use Rattle.closure.proofs.next_pass.Given as goal
+
+abbrev pub invariant-loop-y : goal.invariant-loop-y
+invariant-loop-y l =
+    Looked (slots_in l.slots l.counts) l.n l.initial.y.members.words (λ (j : ℕ). has l.todo.words j ≡ false) l.y.members.words l.y.needy.words
+    × ((j : ℕ) → j < room → has l.todo.words j ≡ true → j < l.n)
+
+abbrev pub decreases-loop-y : goal.decreases-loop-y
+decreases-loop-y l = member_count l.todo.words
