@@ -22,8 +22,7 @@ pub struct YebkuzanProperty {
 }
 
 // Where a property of a name is, in the CPU node's block or in its parent's: 6, 7 or 9, the CPU node's block first; then 10.
-#[unsafe(no_mangle)]
-pub extern "C" fn yebkuzan_find_property(
+pub fn yebkuzan_find_property(
     cpu: &[u8],
     parent: &[u8],
     strings: &[u8],
@@ -59,13 +58,7 @@ pub extern "C" fn yebkuzan_find_property(
 }
 
 // Why a property is not found: 6, 7 or 9, the CPU node's block first; then 10; 0 where it is found.
-#[unsafe(no_mangle)]
-pub extern "C" fn yebkuzan_lookup_reason(
-    cpu: &[u8],
-    parent: &[u8],
-    strings: &[u8],
-    name: &[u8],
-) -> u32
+pub fn yebkuzan_lookup_reason(cpu: &[u8], parent: &[u8], strings: &[u8], name: &[u8]) -> u32
     ensures { result ≡ reason cpu.now parent.now strings.now name.now }
 {
     refusal::number(lookup::lookup_reason(cpu, parent, strings, name))

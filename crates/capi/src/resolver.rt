@@ -14,53 +14,42 @@ use record::Record;
 use tables::Rows;
 
 // Whether a record is well formed: 0, or 14.
-#[unsafe(no_mangle)]
-pub extern "C" fn yebkuzan_well_formed(r: Record) -> u32
+pub fn yebkuzan_well_formed(r: Record) -> u32
     ensures { result ≡ form_number r }
 {
     if form::well_formed(r) { 0 } else { 14 }
 }
 
 // The permitted features of a record at a level under grants: 14, 15.
-#[unsafe(no_mangle)]
-pub extern "C" fn yebkuzan_permitted(r: Record, level: u32, g: Grants) -> YebkuzanPermitted
+pub fn yebkuzan_permitted(r: Record, level: u32, g: Grants) -> YebkuzanPermitted
     ensures { permitted_outcome_c result ≡ permitted_of r level g }
 {
     answers::of_permitted(permitted::permitted(r, level, g))
 }
 
 // The enabled set, from record, level and grants alone: 14, 15.
-#[unsafe(no_mangle)]
-pub extern "C" fn yebkuzan_enable(r: Record, level: u32, g: Grants) -> YebkuzanEnabled
+pub fn yebkuzan_enable(r: Record, level: u32, g: Grants) -> YebkuzanEnabled
     ensures { enabled_outcome_c result ≡ enable r level g }
 {
     answers::of_enabled(enabled::enable(r, level, g))
 }
 
 // The reach table of a record: 14.
-#[unsafe(no_mangle)]
-pub extern "C" fn yebkuzan_reach_table(r: Record) -> YebkuzanReach
+pub fn yebkuzan_reach_table(r: Record) -> YebkuzanReach
     ensures { reach_outcome_c result ≡ reach_of r }
 {
     answers::of_reach(reach::reach_table(r))
 }
 
 // The enabled set by the rows of a table that is handed in: 14, 15.
-#[unsafe(no_mangle)]
-pub extern "C" fn yebkuzan_enable_by_table(
-    r: Record,
-    table: Rows,
-    level: u32,
-    g: Grants,
-) -> YebkuzanEnabled
+pub fn yebkuzan_enable_by_table(r: Record, table: Rows, level: u32, g: Grants) -> YebkuzanEnabled
     ensures { enabled_outcome_c result ≡ enable_by_table r table.words level g }
 {
     answers::of_enabled(reach::enable_by_table(r, table, level, g))
 }
 
 // The chain of a feature that is left out, a byte a position, into the front of a lent buffer: 14, 15, 16, 17, 18.
-#[unsafe(no_mangle)]
-pub extern "C" fn yebkuzan_chain(
+pub fn yebkuzan_chain(
     r: Record,
     level: u32,
     g: Grants,
@@ -74,8 +63,7 @@ pub extern "C" fn yebkuzan_chain(
 }
 
 // The capability words, HFSCR and FSCR of a record at a level under grants: 14, 15.
-#[unsafe(no_mangle)]
-pub extern "C" fn yebkuzan_words(r: Record, level: u32, g: Grants) -> YebkuzanWords
+pub fn yebkuzan_words(r: Record, level: u32, g: Grants) -> YebkuzanWords
     ensures { words_outcome_c result ≡ words_answer r level g }
 {
     answers::of_words(words::words(r, level, g))

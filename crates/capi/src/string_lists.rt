@@ -6,8 +6,7 @@ ghost use Rattle.answers.specs.Answers.{string_place_outcome_c, place_outcome};
 use answers::YebkuzanStringPlace;
 
 // At which place of a list a string first stands, counted from 0: 10.
-#[unsafe(no_mangle)]
-pub extern "C" fn yebkuzan_string_place(list: &[u8], text: &[u8]) -> YebkuzanStringPlace
+pub fn yebkuzan_string_place(list: &[u8], text: &[u8]) -> YebkuzanStringPlace
     ensures { string_place_outcome_c result ≡ place_outcome (string_place list.now text.now) }
 {
     answers::of_string_place(stringlist::string_place(list, text))

@@ -15,8 +15,7 @@ pub struct YebkuzanRead {
 }
 
 // The feature record of a tree: 1 to 13, with a byte offset in the tree.
-#[unsafe(no_mangle)]
-pub extern "C" fn yebkuzan_read(tree: &[u8]) -> YebkuzanRead
+pub fn yebkuzan_read(tree: &[u8]) -> YebkuzanRead
     ensures { read_outcome_c result ≡ read_record tree.now }
 {
     let read = reader::read_record(tree);

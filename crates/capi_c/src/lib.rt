@@ -1,0 +1,10 @@
+// The C interface, as a static library: each function of `capi`, under its name there, with its clauses. `include/yebkuzan.h` declares it
+// for C.
+#![tactic(auto)]
+
+mod cpu;
+mod cpu_tables;
+mod resolver;
+mod string_lists;
+mod text;
+mod tree;

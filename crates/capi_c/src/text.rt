@@ -1,0 +1,23 @@
+// Unit text of a CPU, both ways.
+ghost use Rattle.std.specs.Prelude.{◌≡◌, length};
+ghost use Rattle.unit.specs.Unit.{read_unit, write_unit, after_unit};
+ghost use Rattle.answers.specs.Answers.{written_outcome_c, unit_outcome_c};
+
+use answers::{YebkuzanUnit, YebkuzanWritten};
+
+// The unit number of a text: 20, then 12.
+#[unsafe(no_mangle)]
+pub extern "C" fn yebkuzan_read_unit(text: &[u8]) -> YebkuzanUnit
+    ensures { unit_outcome_c result ≡ read_unit text.now }
+{
+    capi::yebkuzan_read_unit(text)
+}
+
+// The shortest lower-case text of a unit number, into the front of a lent buffer: 18.
+#[unsafe(no_mangle)]
+pub extern "C" fn yebkuzan_write_unit(unit: u32, out: &mut [u8]) -> YebkuzanWritten
+    ensures result_value { written_outcome_c result ≡ write_unit unit (length out.old) }
+    ensures out_after { out.new ≡ after_unit unit out.old }
+{
+    capi::yebkuzan_write_unit(unit, out)
+}
