@@ -1,8 +1,6 @@
 -- `matching::has_name` meets its contract. The loop's invariant: the string from `i` on has the characters of the name from `j` on exactly when the whole one has all. Assumes nothing.
 use native.Mathlib.Omega.{arith}
 use mathlib.Core.Path.{sym, ◌∙◌}
-use Prim.Native.Nat.{◌-◌}
-use Rattle.strings.specs.Strings.{ended}
 use Rattle.names.proofs.Texts.{has-whole, named_none, named-ended, named-longer, named-apart, named-goes-on}
 use Rattle.matching.proofs.has_name.Goals as goal
 

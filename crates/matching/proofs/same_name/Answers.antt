@@ -1,7 +1,6 @@
 -- `matching::same_name` meets its contract. The loop's invariant: the strings from `i` and `j` on are the same exactly when the whole ones are. Assumes nothing.
 use native.Mathlib.Omega.{arith}
 use mathlib.Core.Path.{refl, sym, ◌∙◌}
-use Prim.Native.Nat.{◌-◌}
 use Rattle.names.proofs.Texts.{same-none-left, same-none-right, same_ended, same-goes-on, same-apart}
 use Rattle.matching.proofs.same_name.Goals as goal
 
