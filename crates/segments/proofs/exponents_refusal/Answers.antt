@@ -1,0 +1,22 @@
+-- `segments::exponents_refusal` meets its contract. The loop's invariant: the pages from `j` on decide. Assumes nothing.
+use native.Mathlib.Omega.{arith}
+use Rattle.segments.proofs.SegmentLaws.{base_above, base-passed, exponent-above, exponent-below, page-passed, pages-passed}
+use Rattle.segments.proofs.exponents_refusal.Goals as goal
+
+pub returns-then-base-gt-LARGEST_EXPONENT : goal.returns-then-base-gt-LARGEST_EXPONENT
+returns-then-base-gt-LARGEST_EXPONENT c = base_above _ _ _ (omega arith)
+
+pub loop-j-init : goal.loop-j-init
+loop-j-init c = base-passed _ _ _ (omega arith)
+
+pub returns-then-exponent-gt-LARGEST_EXPONENT : goal.returns-then-exponent-gt-LARGEST_EXPONENT
+returns-then-exponent-gt-LARGEST_EXPONENT c = exponent-above c.loop-j.invariant (omega arith) (omega arith)
+
+pub returns-then-exponent-base : goal.returns-then-exponent-base
+returns-then-exponent-base c = exponent-below c.loop-j.invariant (omega arith) (omega arith) (omega arith)
+
+pub loop-j-preserved : goal.loop-j-preserved
+loop-j-preserved c = page-passed c.loop-j.invariant (omega arith) (omega arith) (omega arith)
+
+pub returns : goal.returns
+returns c = pages-passed c.loop-j.invariant c.loop-j-test.false
