@@ -1,0 +1,25 @@
+-- `attributes::attributes` meets its contract. Assumes nothing.
+use Rattle.attributes.specs.Attributes.{pa_table}
+use Rattle.attributes.proofs.attributes.Goals as goal
+
+pub returns : goal.returns
+unfolding pa_table
+returns c =
+    rw (
+      c.later_bytes.ensures,
+      c.word_at.ensures,
+      c.byte_at-8.ensures,
+      c.byte_at-7.ensures,
+      c.byte_at-6.ensures,
+      c.byte_at-5.ensures,
+      c.byte_at-4.ensures,
+      c.byte_at-3.ensures,
+      c.byte_at-2.ensures,
+      c.byte_at.ensures,
+      c.byte_at-b5.ensures,
+      c.byte_at-b4.ensures,
+      c.byte_at-b3.ensures,
+      c.byte_at-b2.ensures,
+      c.byte_at-b1.ensures,
+      c.byte_at-b0.ensures,
+    )
