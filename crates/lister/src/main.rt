@@ -3,17 +3,12 @@
 #![tactic(auto)]
 
 use header::LARGEST_TREE;
-use libc::{STDERR_FILENO, STDIN_FILENO, STDOUT_FILENO};
 use listing::LONGEST_LINE;
-
-// Whether nothing is left to read, and no read fails.
-fn at_end() -> bool {
-    let mut more = [0u8; 1];
-    libc::read(STDIN_FILENO, &mut more) == 0
-}
+use std::io;
+use std::io::{Read, Write};
 
 // Prints a line of a tree's list, and answers whether another may follow.
-fn print_line(tree: &[u8], k: u32) -> bool {
+fn print_line(rt: &(impl Print + Eprint), tree: &[u8], k: u32) -> bool {
     let mut line: [u8; LONGEST_LINE] = [0; LONGEST_LINE];
     let written = listing::write_line(tree, k, &mut line);
     let refusal = written.refusal;
@@ -21,27 +16,27 @@ fn print_line(tree: &[u8], k: u32) -> bool {
         return false;
     }
     let length = written.length as usize;
-    if io::write_all(STDOUT_FILENO, &line[..length]) {
+    if io::writer(rt).write_all(&line[..length]).is_ok() {
         return true;
     }
-    io::write_all(STDERR_FILENO, b"lister: the list cannot be written\n");
+    let _ = eprintln!(rt; "lister: the list cannot be written");
     false
 }
 
-fn print_list(tree: &[u8]) {
+fn print_list(rt: &(impl Print + Eprint), tree: &[u8]) {
     let mut k: u32 = 0;
-    while k < u32::MAX && print_line(tree, k) {
+    while k < u32::MAX && print_line(rt, tree, k) {
         k += 1;
     }
 }
 
-fn main() {
+fn main(rt: HostRuntime) {
     // What follows the most bytes of a tree in the input changes no line, so that it is not read.
-    let mut tree: [u8; LARGEST_TREE] = [0; LARGEST_TREE];
-    let length = io::read_full(STDIN_FILENO, &mut tree);
-    if length < LARGEST_TREE && !at_end() {
-        io::write_all(STDERR_FILENO, b"lister: the tree cannot be read\n");
+    let mut tree = Vec::new(rt.alloc());
+    let mut input = rt.stdin().take(LARGEST_TREE as u64);
+    if input.read_to_end(&mut tree).is_err() {
+        let _ = eprintln!(rt; "lister: the tree cannot be read");
         return;
     }
-    print_list(&tree[..length]);
+    print_list(&rt, &tree);
 }

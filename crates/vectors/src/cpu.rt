@@ -3,161 +3,167 @@ use crate::line::{put_bytes, put_cells, put_none, put_number, put_start};
 use radix::RadixTable;
 use segments::{Descriptor, SegmentTable};
 use sizes::{MOST_SIZES, Size};
+use std::io;
+use std::io::Write;
 
 const DESCRIPTORS: usize = 8;
 
 const PAGES: usize = 8;
 
-pub(crate) fn unit_read(text: &[u8]) -> bool {
+pub(crate) fn unit_read(out: &mut impl Write, text: &[u8]) -> io::Result<bool> {
     let read = unit::read_unit(text);
     let refusal = read.refusal;
-    put_start(b'u', refusal);
-    put_number(read.number as u64);
-    true
+    put_start(out, b'u', refusal)?;
+    put_number(out, read.number as u64)?;
+    Ok(true)
 }
 
-fn put_written(number: u32, buffer: &mut [u8]) {
+fn put_written(out: &mut impl Write, number: u32, buffer: &mut [u8]) -> io::Result<()> {
     let written = unit::write_unit(number, buffer);
     let refusal = written.refusal;
-    put_start(b'w', refusal);
-    put_number(written.length as u64);
-    put_bytes(buffer);
+    put_start(out, b'w', refusal)?;
+    put_number(out, written.length as u64)?;
+    put_bytes(out, buffer)
 }
 
 // The first four bytes are the number, and the others the lent buffer; fewer than four are no vector.
-pub(crate) fn unit_written(value: &mut [u8]) -> bool {
+pub(crate) fn unit_written(out: &mut impl Write, value: &mut [u8]) -> io::Result<bool> {
     if value.len() < 4 {
-        return false;
+        return Ok(false);
     }
     let number = cells::cell_at(value, 0);
-    put_written(number, &mut value[4..]);
-    true
+    put_written(out, number, &mut value[4..])?;
+    Ok(true)
 }
 
-pub(crate) fn page_sizes(value: &[u8]) -> bool {
+pub(crate) fn page_sizes(out: &mut impl Write, value: &[u8]) -> io::Result<bool> {
     let read = sizes::page_sizes(value);
     let refusal = read.refusal;
     let table = read.table;
-    put_start(b'p', refusal);
-    put_number(table.count as u64);
-    put_cells(&table.exponents);
-    true
+    put_start(out, b'p', refusal)?;
+    put_number(out, table.count as u64)?;
+    put_cells(out, &table.exponents)?;
+    Ok(true)
 }
 
-fn put_size(exponent: u32) {
+fn put_size(out: &mut impl Write, exponent: u32) -> io::Result<()> {
     match sizes::size_or_none(exponent) {
-        Size::Exponent(size) => put_number(size as u64),
-        Size::None => put_none(),
+        Size::Exponent(size) => put_number(out, size as u64),
+        Size::None => put_none(out),
     }
 }
 
-fn put_sizes(exponents: &[u32]) {
+fn put_sizes(out: &mut impl Write, exponents: &[u32]) -> io::Result<()> {
     let mut i = 0;
     while i < exponents.len() {
-        put_size(exponents[i]);
+        put_size(out, exponents[i])?;
         i += 1;
     }
+    Ok(())
 }
 
-pub(crate) fn segment_sizes(value: &[u8]) -> bool {
+pub(crate) fn segment_sizes(out: &mut impl Write, value: &[u8]) -> io::Result<bool> {
     let read = sizes::segment_sizes(value);
     let refusal = read.refusal;
     let table = read.table;
-    put_start(b's', refusal);
-    put_number(table.count as u64);
-    put_sizes(&table.exponents);
-    true
+    put_start(out, b's', refusal)?;
+    put_number(out, table.count as u64)?;
+    put_sizes(out, &table.exponents)?;
+    Ok(true)
 }
 
-fn put_descriptor(descriptor: Descriptor) {
-    put_number(descriptor.base as u64);
-    put_number(descriptor.encoding as u64);
-    put_number(descriptor.count as u64);
+fn put_descriptor(out: &mut impl Write, descriptor: Descriptor) -> io::Result<()> {
+    put_number(out, descriptor.base as u64)?;
+    put_number(out, descriptor.encoding as u64)?;
+    put_number(out, descriptor.count as u64)?;
     let mut i: usize = 0;
     while i < PAGES {
         let page = descriptor.pages[i];
-        put_number(page.exponent as u64);
-        put_number(page.encoding as u64);
+        put_number(out, page.exponent as u64)?;
+        put_number(out, page.encoding as u64)?;
         i += 1;
     }
+    Ok(())
 }
 
-fn put_descriptors(table: SegmentTable) {
+fn put_descriptors(out: &mut impl Write, table: SegmentTable) -> io::Result<()> {
     let mut i: usize = 0;
     while i < DESCRIPTORS {
-        put_descriptor(table.descriptors[i]);
+        put_descriptor(out, table.descriptors[i])?;
         i += 1;
     }
+    Ok(())
 }
 
-pub(crate) fn segment_page_sizes(value: &[u8]) -> bool {
+pub(crate) fn segment_page_sizes(out: &mut impl Write, value: &[u8]) -> io::Result<bool> {
     let read = segments::segment_page_sizes(value);
     let refusal = read.refusal;
     let table = read.table;
-    put_start(b'g', refusal);
-    put_number(table.count as u64);
-    put_descriptors(table);
-    true
+    put_start(out, b'g', refusal)?;
+    put_number(out, table.count as u64)?;
+    put_descriptors(out, table)?;
+    Ok(true)
 }
 
-fn put_encodings(table: RadixTable) {
+fn put_encodings(out: &mut impl Write, table: RadixTable) -> io::Result<()> {
     let mut i: usize = 0;
     while i < MOST_SIZES {
         let encoding = table.encodings[i];
-        put_number(encoding.ap as u64);
-        put_number(encoding.exponent as u64);
+        put_number(out, encoding.ap as u64)?;
+        put_number(out, encoding.exponent as u64)?;
         i += 1;
     }
+    Ok(())
 }
 
-pub(crate) fn radix_encodings(value: &[u8]) -> bool {
+pub(crate) fn radix_encodings(out: &mut impl Write, value: &[u8]) -> io::Result<bool> {
     let read = radix::radix_encodings(value);
     let refusal = read.refusal;
     let table = read.table;
-    put_start(b'x', refusal);
-    put_number(table.count as u64);
-    put_encodings(table);
-    true
+    put_start(out, b'x', refusal)?;
+    put_number(out, table.count as u64)?;
+    put_encodings(out, table)?;
+    Ok(true)
 }
 
 // The first four bytes are the edition, and the others the value; fewer than four are no vector.
-pub(crate) fn pa_features(bytes: &[u8]) -> bool {
+pub(crate) fn pa_features(out: &mut impl Write, bytes: &[u8]) -> io::Result<bool> {
     if bytes.len() < 4 {
-        return false;
+        return Ok(false);
     }
     let edition = cells::cell_at(bytes, 0);
     let read = attributes::pa_features(&bytes[4..], edition);
     let refusal = read.refusal;
     let table = read.table;
-    put_start(b'a', refusal);
-    put_bytes(&table.raw);
-    put_number(table.data_streams as u64);
-    put_number(table.vector as u64);
-    put_number(table.vector_scalar as u64);
-    put_number(table.vector_crypto as u64);
-    put_number(table.transactional_memory as u64);
-    put_number(table.copy_paste as u64);
-    put_number(table.radix_translation as u64);
-    put_number(table.second_watchpoint as u64);
-    put_number(table.coprocessor);
-    put_bytes(&table.raw_later);
-    true
+    put_start(out, b'a', refusal)?;
+    put_bytes(out, &table.raw)?;
+    put_number(out, table.data_streams as u64)?;
+    put_number(out, table.vector as u64)?;
+    put_number(out, table.vector_scalar as u64)?;
+    put_number(out, table.vector_crypto as u64)?;
+    put_number(out, table.transactional_memory as u64)?;
+    put_number(out, table.copy_paste as u64)?;
+    put_number(out, table.radix_translation as u64)?;
+    put_number(out, table.second_watchpoint as u64)?;
+    put_number(out, table.coprocessor)?;
+    put_bytes(out, &table.raw_later)?;
+    Ok(true)
 }
 
-pub(crate) fn pi_features(value: &[u8]) -> bool {
+pub(crate) fn pi_features(out: &mut impl Write, value: &[u8]) -> io::Result<bool> {
     let read = attributes::pi_features(value);
     let refusal = read.refusal;
     let table = read.table;
-    put_start(b'i', refusal);
-    put_number(table.count as u64);
-    put_bytes(&table.bytes);
-    true
+    put_start(out, b'i', refusal)?;
+    put_number(out, table.count as u64)?;
+    put_bytes(out, &table.bytes)?;
+    Ok(true)
 }
 
-pub(crate) fn bus_frequency(value: &[u8]) -> bool {
+pub(crate) fn bus_frequency(out: &mut impl Write, value: &[u8]) -> io::Result<bool> {
     let read = attributes::bus_frequency(value);
     let refusal = read.refusal;
-    put_start(b'f', refusal);
-    put_number(read.frequency);
-    true
+    put_start(out, b'f', refusal)?;
+    put_number(out, read.frequency)?;
+    Ok(true)
 }

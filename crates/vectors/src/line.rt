@@ -1,58 +1,61 @@
 // A line of output: its kind, and then numbers in decimal, each after a space.
-use libc::STDOUT_FILENO;
 use refusal::Refusal;
+use std::io;
+use std::io::Write;
 
-// Ends a line; true if that succeeds.
-pub(crate) fn end_line() -> bool {
-    io::write_all(STDOUT_FILENO, b"\n")
+// Ends a line.
+pub(crate) fn end_line(out: &mut impl Write) -> io::Result<()> {
+    out.write_all(b"\n")
 }
 
-pub(crate) fn put_number(number: u64) {
-    io::write_all(STDOUT_FILENO, b" ");
-    io::print_decimal(STDOUT_FILENO, number);
+pub(crate) fn put_number(out: &mut impl Write, number: u64) -> io::Result<()> {
+    write!(out, " {number}")
 }
 
 // Puts that there is no number in a place.
-pub(crate) fn put_none() {
-    io::write_all(STDOUT_FILENO, b" none");
+pub(crate) fn put_none(out: &mut impl Write) -> io::Result<()> {
+    out.write_all(b" none")
 }
 
-pub(crate) fn put_refusal(refusal: Refusal) {
-    put_number(refusal::number(refusal) as u64);
+pub(crate) fn put_refusal(out: &mut impl Write, refusal: Refusal) -> io::Result<()> {
+    put_number(out, refusal::number(refusal) as u64)
 }
 
 // Starts a line: its kind and the refusal number.
-pub(crate) fn put_start(kind: u8, refusal: Refusal) {
+pub(crate) fn put_start(out: &mut impl Write, kind: u8, refusal: Refusal) -> io::Result<()> {
     let text = [kind];
-    io::write_all(STDOUT_FILENO, &text);
-    put_refusal(refusal);
+    out.write_all(&text)?;
+    put_refusal(out, refusal)
 }
 
 // Puts bytes as numbers.
-pub(crate) fn put_bytes(bytes: &[u8]) {
+pub(crate) fn put_bytes(out: &mut impl Write, bytes: &[u8]) -> io::Result<()> {
     let mut i = 0;
     while i < bytes.len() {
-        put_number(wide(bytes[i]));
+        put_number(out, wide(bytes[i]))?;
         i += 1;
     }
+    Ok(())
 }
 
 // Puts cells as numbers.
-pub(crate) fn put_cells(cells: &[u32]) {
+pub(crate) fn put_cells(out: &mut impl Write, cells: &[u32]) -> io::Result<()> {
     let mut i = 0;
     while i < cells.len() {
-        put_number(wider(cells[i]));
+        put_number(out, wider(cells[i]))?;
         i += 1;
     }
+    Ok(())
 }
 
 // Puts words as numbers.
-pub(crate) fn put_words(words: &[u64]) {
+pub(crate) fn put_words(out: &mut impl Write, words: &[u64]) -> io::Result<()> {
     let mut i = 0;
     while i < words.len() {
-        put_number(words[i]);
+        put_number(out, words[i])?;
         i += 1;
     }
+    Ok(())
 }
 
 fn wide(x: u8) -> u64 {

@@ -12,92 +12,115 @@ mod records;
 mod resolver;
 mod trees;
 
-use libc::{STDIN_FILENO, STDOUT_FILENO};
+use std::io;
+use std::io::{BufWriter, Read, Write};
 
 // The length that the first five bytes of a vector give.
 fn length_of(head: &[u8; 5]) -> usize {
     cells::cell_at(head, 1) as usize
 }
 
-fn bad_vector() -> bool {
-    io::write_all(STDOUT_FILENO, b"bad vector\n");
-    false
+fn bad_vector(out: &mut impl Write) -> io::Result<bool> {
+    out.write_all(b"bad vector\n")?;
+    Ok(false)
 }
 
 // Puts the line of a vector of unit text, a tree, a lookup, a string in a list or a record; false if it is none.
-fn tree_answer(kind: u8, value: &[u8]) -> bool {
+fn tree_answer(out: &mut impl Write, kind: u8, value: &[u8]) -> io::Result<bool> {
     match kind {
-        b'u' => cpu::unit_read(value),
-        b't' => trees::tree(value),
-        b'l' => trees::property_lookup(value),
-        b'm' => trees::string_place(value),
-        b'r' => records::record(value),
-        b'n' => resolver::reach_table(value),
-        _ => false,
+        b'u' => cpu::unit_read(out, value),
+        b't' => trees::tree(out, value),
+        b'l' => trees::property_lookup(out, value),
+        b'm' => trees::string_place(out, value),
+        b'r' => records::record(out, value),
+        b'n' => resolver::reach_table(out, value),
+        _ => Ok(false),
     }
 }
 
 // Puts the line of a vector whose bytes are only read; false if it is none.
-fn read_answer(kind: u8, value: &[u8]) -> bool {
+fn read_answer(out: &mut impl Write, kind: u8, value: &[u8]) -> io::Result<bool> {
     match kind {
-        b'p' => cpu::page_sizes(value),
-        b's' => cpu::segment_sizes(value),
-        b'g' => cpu::segment_page_sizes(value),
-        b'x' => cpu::radix_encodings(value),
-        b'a' => cpu::pa_features(value),
-        b'i' => cpu::pi_features(value),
-        b'f' => cpu::bus_frequency(value),
-        _ => tree_answer(kind, value),
+        b'p' => cpu::page_sizes(out, value),
+        b's' => cpu::segment_sizes(out, value),
+        b'g' => cpu::segment_page_sizes(out, value),
+        b'x' => cpu::radix_encodings(out, value),
+        b'a' => cpu::pa_features(out, value),
+        b'i' => cpu::pi_features(out, value),
+        b'f' => cpu::bus_frequency(out, value),
+        _ => tree_answer(out, kind, value),
     }
 }
 
 // Puts the line of a vector, without its end; false if it is no vector.
-fn answer(kind: u8, value: &mut [u8]) -> bool {
+fn answer(out: &mut impl Write, kind: u8, value: &mut [u8]) -> io::Result<bool> {
     match kind {
-        b'w' => cpu::unit_written(value),
-        b'e' | b'b' | b'c' => resolver::queries(kind, value),
-        _ => read_answer(kind, value),
+        b'w' => cpu::unit_written(out, value),
+        b'e' | b'b' | b'c' => resolver::queries(out, kind, value),
+        _ => read_answer(out, kind, value),
     }
+}
+
+// Reads until the buffer is full or the input ends, and answers how many bytes it put at the buffer's front.
+fn read_full(input: &mut impl Read, buffer: &mut [u8]) -> io::Result<usize> {
+    let mut done = 0;
+    while done < buffer.len() {
+        let got = input.read(&mut buffer[done..])?;
+        if got == 0 {
+            return Ok(done);
+        }
+        done += got;
+    }
+    Ok(done)
 }
 
 // Reads the bytes of a vector, prints its line, and answers whether to go on.
-fn run_value(kind: u8, value: &mut [u8]) -> bool {
-    if io::read_full(STDIN_FILENO, value) < value.len() {
-        return bad_vector();
+fn run_value(
+    input: &mut impl Read,
+    out: &mut impl Write,
+    kind: u8,
+    value: &mut [u8],
+) -> io::Result<bool> {
+    if read_full(input, value)? < value.len() {
+        return bad_vector(out);
     }
-    if answer(kind, value) {
-        return line::end_line();
+    if answer(out, kind, value)? {
+        line::end_line(out)?;
+        return Ok(true);
     }
-    bad_vector()
+    bad_vector(out)
 }
 
 // Runs the next vector, whose bytes go into `bytes`, and answers whether to go on.
-fn run_vector(bytes: &mut [u8]) -> bool {
+fn run_vector(input: &mut impl Read, out: &mut impl Write, bytes: &mut [u8]) -> io::Result<bool> {
     let mut head = [0u8; 5];
-    let got = io::read_full(STDIN_FILENO, &mut head);
+    let got = read_full(input, &mut head)?;
     if got == 0 {
-        return false;
+        return Ok(false);
     }
     if got < 5 {
-        return bad_vector();
+        return bad_vector(out);
     }
     let length = length_of(&head);
     if bytes.len() < length {
-        return bad_vector();
+        return bad_vector(out);
     }
-    run_value(head[0], &mut bytes[..length])
+    run_value(input, out, head[0], &mut bytes[..length])
 }
 
 // A proved loop has to end, and nothing says that the input does. So the loop counts its turns down, from a number
 // that no run uses up.
-fn run_vectors(bytes: &mut [u8]) {
+fn run_vectors(input: &mut impl Read, out: &mut impl Write, bytes: &mut [u8]) -> io::Result<()> {
     let mut turns = u64::MAX;
-    while 0 < turns && run_vector(bytes) {
+    while 0 < turns && run_vector(input, out, bytes)? {
         turns -= 1;
     }
+    Ok(())
 }
 
-fn main() {
-    let mut bytes = [0u8; 70000];
-    run_vectors(&mut bytes);
+fn main(rt: HostRuntime) -> io::Result<()> {
+    let mut bytes = vec![in rt.alloc(); 0u8; 70000]?;
+    let mut out = BufWriter::new(rt.alloc(), rt.stdout())?;
+    run_vectors(&mut rt.stdin(), &mut out, &mut bytes)?;
+    out.flush()
 }

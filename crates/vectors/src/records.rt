@@ -3,6 +3,8 @@ ghost use Rattle.std.specs.Prelude.{◌<◌};
 
 use crate::line::{put_cells, put_number, put_start};
 use record::{Feature, MOST_DEPENDENCIES, MOST_FEATURES, Record, SLOTS};
+use std::io;
+use std::io::Write;
 
 // The numbers of a feature.
 fn numbers_of(f: Feature) -> [u32; 11] {
@@ -50,35 +52,41 @@ fn is_zero(numbers: &[u32]) -> bool {
 }
 
 // Puts a position with the numbers of its feature and its slots; nothing, if these are all zero.
-fn put_row(position: usize, numbers: &[u32], slots: &[u32]) {
+fn put_row(
+    out: &mut impl Write,
+    position: usize,
+    numbers: &[u32],
+    slots: &[u32],
+) -> io::Result<()> {
     if is_zero(numbers) && is_zero(slots) {
-        return;
+        return Ok(());
     }
-    put_number(position as u64);
-    put_cells(numbers);
-    put_cells(slots);
+    put_number(out, position as u64)?;
+    put_cells(out, numbers)?;
+    put_cells(out, slots)
 }
 
 // Puts the rows of all positions.
-fn put_rows(record: Record) {
+fn put_rows(out: &mut impl Write, record: Record) -> io::Result<()> {
     let mut i: usize = 0;
     while i < MOST_FEATURES {
         let numbers = numbers_of(record.features[i]);
         let slots = slots_of(&record.slots, i);
-        put_row(i, &numbers, &slots);
+        put_row(out, i, &numbers, &slots)?;
         i += 1;
     }
+    Ok(())
 }
 
 // A whole tree: the refusal, its place, the isa, the count, and the rows.
-pub(crate) fn record(value: &[u8]) -> bool {
+pub(crate) fn record(out: &mut impl Write, value: &[u8]) -> io::Result<bool> {
     let read = reader::read_record(value);
     let refusal = read.refusal;
-    put_start(b'r', refusal);
-    put_number(read.place as u64);
+    put_start(out, b'r', refusal)?;
+    put_number(out, read.place as u64)?;
     let record = read.record;
-    put_number(record.isa as u64);
-    put_number(record.count as u64);
-    put_rows(record);
-    true
+    put_number(out, record.isa as u64)?;
+    put_number(out, record.count as u64)?;
+    put_rows(out, record)?;
+    Ok(true)
 }

@@ -3,6 +3,8 @@ use crate::line::{put_number, put_start};
 use lookup::Found;
 use positions::Position;
 use refusal::Refusal;
+use std::io;
+use std::io::Write;
 
 // The three lengths before the parts of a lookup.
 const LENGTHS: usize = 12;
@@ -19,40 +21,46 @@ struct Ends {
 }
 
 // A whole tree: the refusal, its place, and the containers.
-pub(crate) fn tree(value: &[u8]) -> bool {
+pub(crate) fn tree(out: &mut impl Write, value: &[u8]) -> io::Result<bool> {
     let checked = walk::check_tree(value);
     let refusal = checked.refusal;
-    put_start(b't', refusal);
-    put_number(checked.place as u64);
+    put_start(out, b't', refusal)?;
+    put_number(out, checked.place as u64)?;
     let layout = checked.layout;
     let containers = layout.containers;
-    put_number(containers.count as u64);
-    put_number(containers.first as u64);
-    put_number(containers.second as u64);
-    true
+    put_number(out, containers.count as u64)?;
+    put_number(out, containers.first as u64)?;
+    put_number(out, containers.second as u64)?;
+    Ok(true)
 }
 
-fn put_found(which: u64, from: usize) {
-    put_number(which);
-    put_number(from as u64);
+fn put_found(out: &mut impl Write, which: u64, from: usize) -> io::Result<()> {
+    put_number(out, which)?;
+    put_number(out, from as u64)
 }
 
 // The block in which a property is found, and its place there.
-fn put_place(found: Found) {
+fn put_place(out: &mut impl Write, found: Found) -> io::Result<()> {
     match found {
-        Found::InCpu { from, to: _ } => put_found(1, from),
-        Found::InParent { from, to: _ } => put_found(2, from),
-        Found::Nowhere => put_found(0, 0),
+        Found::InCpu { from, to: _ } => put_found(out, 1, from),
+        Found::InParent { from, to: _ } => put_found(out, 2, from),
+        Found::Nowhere => put_found(out, 0, 0),
     }
 }
 
-fn looked_up<'a>(cpu: &'a [u8], parent: &'a [u8], strings: &[u8], name: &[u8]) -> bool {
+fn looked_up<'a>(
+    out: &mut impl Write,
+    cpu: &'a [u8],
+    parent: &'a [u8],
+    strings: &[u8],
+    name: &[u8],
+) -> io::Result<bool> {
     let refusal = lookup::lookup_reason(cpu, parent, strings, name);
-    put_start(b'l', refusal);
-    put_place(lookup::find_property(cpu, parent, strings, name));
+    put_start(out, b'l', refusal)?;
+    put_place(out, lookup::find_property(cpu, parent, strings, name))?;
     let part = lookup::property_part(cpu, parent, strings, name);
-    put_number(part.len() as u64);
-    true
+    put_number(out, part.len() as u64)?;
+    Ok(true)
 }
 
 fn ends_of(value: &[u8]) -> Ends {
@@ -78,38 +86,38 @@ fn part(value: &[u8], from: usize, to: usize) -> &[u8] {
 }
 
 // A lookup: three lengths, then the CPU node's block, its parent's, the strings block, and the name sought. Fewer bytes are no vector.
-pub(crate) fn property_lookup(value: &[u8]) -> bool {
+pub(crate) fn property_lookup(out: &mut impl Write, value: &[u8]) -> io::Result<bool> {
     let ends = ends_of(value);
     if value.len() < ends.strings {
-        return false;
+        return Ok(false);
     }
     let cpu = part(value, LENGTHS, ends.cpu);
     let parent = part(value, ends.cpu, ends.parent);
     let strings = part(value, ends.parent, ends.strings);
     let name = part(value, ends.strings, value.len());
-    looked_up(cpu, parent, strings, name)
+    looked_up(out, cpu, parent, strings, name)
 }
 
 // The place at which a text stands in a list.
-fn put_string_place(list: &[u8], text: &[u8]) {
+fn put_string_place(out: &mut impl Write, list: &[u8], text: &[u8]) -> io::Result<()> {
     match stringlist::string_place(list, text) {
         Position::At(place) => {
-            put_start(b'm', Refusal::None);
-            put_number(place as u64);
+            put_start(out, b'm', Refusal::None)?;
+            put_number(out, place as u64)
         }
         Position::Nowhere => {
-            put_start(b'm', Refusal::NotFound);
-            put_number(0);
+            put_start(out, b'm', Refusal::NotFound)?;
+            put_number(out, 0)
         }
     }
 }
 
 // A text in a list of strings: the list's length, the list, and the text sought. Fewer bytes are no vector.
-pub(crate) fn string_place(value: &[u8]) -> bool {
+pub(crate) fn string_place(out: &mut impl Write, value: &[u8]) -> io::Result<bool> {
     let end = LENGTH + cells::cell_at(value, 0) as usize;
     if value.len() < end {
-        return false;
+        return Ok(false);
     }
-    put_string_place(part(value, LENGTH, end), part(value, end, value.len()));
-    true
+    put_string_place(out, part(value, LENGTH, end), part(value, end, value.len()))?;
+    Ok(true)
 }
