@@ -1,7 +1,6 @@
 -- `unit::read_hex` meets its contract. The loop's invariant is `Read`. Assumes nothing.
 use mathlib.Core.Path.{sym, ◌∙◌}
 use native.Mathlib.Omega.{arith}
-use Prim.Native.Nat.{◌-◌}
 use Rattle.characters.proofs.Table.{hex-below}
 use Rattle.unit.proofs.Reading.{read_none, read-bad, room, read_more, read_all, read-empty, read-long, read-other, read-large, read-number}
 use Rattle.unit.proofs.read_hex.Goals as goal

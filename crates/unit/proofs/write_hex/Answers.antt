@@ -1,26 +1,25 @@
 -- `unit::write_hex` meets its contract. The loop's invariant is `Writing`. Assumes nothing.
 use mathlib.Core.Path.{sym, ap, ◌∙◌}
 use native.Mathlib.Omega.{arith}
-use lib.ListN.{length}
 use Rattle.refusal.specs.Refusal.{answer, refuse}
 use Rattle.refusal.proofs.Checks.{stops, passes, tests}
-use Rattle.unit.specs.Hex.{digit_count, write_checks, write_hex}
+use Rattle.unit.specs.Hex.{write_checks, write_hex}
 use Rattle.unit.proofs.Digits.{writing-none, writing_more, writing-length, writing-all, after-refused, after-written}
 use Rattle.unit.proofs.write_hex.Goals as goal
 
 pub returns-then-buffer-at : goal.returns-then-buffer-at
 unfolding write_hex write_checks
 returns-then-buffer-at c = let n = c.digit_count-count.ensures in record {
-      result_value = sym (stops (refuse 0) 0 0 _ _ (omega (arith, tests)));
-      buffer_after = after-refused _ _ _ (omega arith);
-    }
+  result_value = sym (stops (refuse 0) 0 0 _ _ (omega (arith, tests)));
+  buffer_after = after-refused _ _ _ (omega arith);
+}
 
 pub returns-then-buffer-at-2 : goal.returns-then-buffer-at-2
 unfolding write_hex write_checks
 returns-then-buffer-at-2 c = let n = c.digit_count-count.ensures in record {
-      result_value = sym (stops (refuse 0) 0 0 _ _ (omega (arith, tests)));
-      buffer_after = after-refused _ _ _ (omega arith);
-    }
+  result_value = sym (stops (refuse 0) 0 0 _ _ (omega (arith, tests)));
+  buffer_after = after-refused _ _ _ (omega arith);
+}
 
 pub loop-place-init : goal.loop-place-init
 loop-place-init c = let n = c.digit_count-count.ensures in (n, omega arith, writing-none _ _ _ _ n (omega arith))
