@@ -2,7 +2,7 @@
 use mathlib.Core.Path.{◌≡◌, refl, sym, ap, ◌∙◌}
 use mathlib.Core.Bool.{Bool, true, false}
 use mathlib.Core.List.{List, [], ◌∷◌, ◌++◌, append_assoc}
-use Prim.Native.Nat.{ℕ, zero, suc, ◌+◌}
+use Prim.Native.Nat.{ℕ, zero, suc}
 use native.Mathlib.Omega.{arith}
 use lib.ListN.{take, drop}
 use Rattle.refusal.specs.Refusal.{Placed, placed, refuse_at, fault as fault_at}
@@ -12,7 +12,7 @@ use Rattle.names.specs.Names.{both, is_property_name}
 use Rattle.tokens.specs.declared.Cursor.{Cursor}
 use Rattle.tokens.specs.declared.Step.TheVariants.{BeginNode, EndNode, Property, Nop, End, Fault}
 use Rattle.tokens.specs.Steps.{pick, step_at}
-use Rattle.tokens.specs.Tokens.{Token, property, nop, fault, tokens}
+use Rattle.tokens.specs.Tokens.{Token, property, nop, tokens}
 use Rattle.tokens.proofs.TokenList.{tokens-step, property-moves, nop-moves}
 use Rattle.properties.specs.Properties.{among, given_before, name_fault, read_properties}
 use Rattle.properties.specs.Marks.{mark_of, is_set, with_mark}

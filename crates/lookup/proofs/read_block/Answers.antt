@@ -2,7 +2,6 @@
 -- the properties read. Assumes nothing.
 use mathlib.Core.Path.{refl, subst}
 use native.Mathlib.Omega.{arith}
-use Prim.Native.Nat.{◌-◌}
 use Rattle.lookup.specs.Parts.{Stands}
 use Rattle.lookup.proofs.Reading.{reading_begins, reading-named, reading-skipped, reading-stops, reading-ends, named-moves, skip-moves}
 use Rattle.lookup.proofs.read_block.Goals as goal

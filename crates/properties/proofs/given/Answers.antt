@@ -1,7 +1,6 @@
 -- `properties::given` meets its contract: what is left of the look-back decides the whole. Assumes nothing.
 use mathlib.Core.Path.{refl, sym, ◌∙◌}
 use native.Mathlib.Omega.{arith}
-use Prim.Native.Nat.{◌-◌}
 use Rattle.tokens.proofs.TokenList.{property-moves, nop-moves}
 use Rattle.properties.proofs.LookBack.{none_before, before_same, before-other, before-nop, before-begin, before-end-node, before-end, before-fault}
 use Rattle.properties.proofs.given.Goals as goal

@@ -1,7 +1,6 @@
 -- `properties::read_properties` meets its contract: the properties read so far, and that those left decide. Assumes nothing.
 use mathlib.Core.Path.{refl, sym, ap, ◌∙◌}
 use native.Mathlib.Omega.{arith}
-use Prim.Native.Nat.{◌-◌}
 use lib.ListN.{length}
 use Rattle.tokens.proofs.TokenList.{property-moves, nop-moves}
 use Rattle.properties.proofs.MarkLaws.{with-long}
