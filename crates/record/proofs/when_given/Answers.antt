@@ -1,7 +1,6 @@
 -- `record::when_given` meets its contract. Assumes nothing.
 use mathlib.Core.Path.{sym, ap, ◌∙◌}
 use mathlib.Core.Bool.{Bool}
-use borrow.Author.Tests.{not-true, not-false}
 use Rattle.record.specs.Cells.{when_given}
 use Rattle.record.proofs.when_given.Goals as goal
 

@@ -1,5 +1,4 @@
 -- `sets::intersection` meets its contract. The loop: the words passed are the common ones. Assumes nothing.
-use Prim.Native.Nat.{◌-◌}
 use native.Mathlib.Omega.{arith}
 use Rattle.positions.proofs.SetCodeLaws.{word-list, common-more, common-all}
 use borrow.Author.Rules.{rules}

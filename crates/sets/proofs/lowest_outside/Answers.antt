@@ -1,5 +1,4 @@
 -- `sets::lowest_outside` meets its contract. The loop: the words passed have no member of the first set outside the second. Assumes nothing.
-use Prim.Native.Nat.{◌-◌}
 use native.Mathlib.Omega.{arith}
 use lib.Count.{trailing_le}
 use Rattle.positions.proofs.SetCodeLaws.{word-list}

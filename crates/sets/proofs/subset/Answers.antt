@@ -1,5 +1,4 @@
 -- `sets::subset` meets its contract. The loop: the words passed of the first set are within those of the second. Assumes nothing.
-use Prim.Native.Nat.{◌-◌}
 use mathlib.Core.Path.{sym}
 use native.Mathlib.Omega.{arith}
 use borrow.Author.Count.{below_more}

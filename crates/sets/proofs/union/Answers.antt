@@ -1,5 +1,4 @@
 -- `sets::union` meets its contract. The loop: the words passed are those of either set. Assumes nothing.
-use Prim.Native.Nat.{◌-◌}
 use native.Mathlib.Omega.{arith}
 use Rattle.positions.proofs.SetCodeLaws.{word-list}
 use Rattle.positions.proofs.FillLaws.{filled_none, either-more, either-all}
