@@ -3,7 +3,7 @@ use borrow.Author.Count.{below_more, below_none}
 use native.Mathlib.Omega.{arith}
 use mathlib.Core.Path.{◌≡◌, refl, sym, ap, subst, ◌∙◌}
 use mathlib.Core.List.{List}
-use Prim.Native.Nat.{ℕ, ◌-◌}
+use Prim.Native.Nat.{ℕ}
 use lib.ListN.{length, get_or}
 use lib.Seq.{ext_get_or}
 use Rattle.strings.specs.Strings.{same_bytes}

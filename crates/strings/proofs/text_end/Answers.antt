@@ -1,7 +1,6 @@
 -- `strings::text_end` meets its contract. The loop's invariant: the string from `i` on ends where the whole one does. Assumes nothing.
 use native.Mathlib.Omega.{arith}
 use mathlib.Core.Path.{refl, sym, ◌∙◌}
-use Prim.Native.Nat.{◌-◌}
 use Rattle.strings.proofs.Strings.{no_text, text-ends, text-goes-on}
 use Rattle.strings.proofs.text_end.Goals as goal
 
