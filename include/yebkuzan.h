@@ -1,7 +1,7 @@
 /*
  * Yebkuzan: which CPU features of a Power machine a guest may use, from its device tree.
  *
- * The library is the archive libcapi.a that `rt staticlib capi` writes (docs/LINKING.md). The code behind every function here is proved
+ * The library is the archive libcapi.a that ./archive writes (docs/LINKING.md). The code behind every function here is proved
  * to give the answer that its definition says, for all input; `tests/header` holds this file to that code.
  *
  * Answers. Each answer begins with `number`: 0, or the number of a refusal, YEBKUZAN_REFUSAL_.. below. Where it is not 0, every other

@@ -1,6 +1,6 @@
 """Runs the lister on every stored tree, and on inputs of special lengths, and compares its text with the model's.
 
-    python3 tests/differential/lister.py             target/bin/lister, which `rt check lister` builds
+    python3 tests/differential/lister.py             crates/lister/out/lister, which ./list builds
     python3 tests/differential/lister.py PROGRAM..   these programs, which read a tree on standard input
 
 The stored trees are those of tests/trees and of the stored vectors. Standard library only, Python 3.9 or later.
@@ -30,7 +30,7 @@ from vectors.damage import laid_out  # noqa: E402
 
 SEED = 20240808
 
-LISTER = TESTS.parent / "target" / "bin" / "lister"
+LISTER = TESTS.parent / "crates" / "lister" / "out" / "lister"
 
 # A program that takes longer than this, in seconds, has failed.
 LONGEST = 10

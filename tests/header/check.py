@@ -6,7 +6,7 @@
                                             docs/LINKING.md does not list; calls.c calls them all
     python3 tests/header/check.py --wrong   headers and archives that are wrong in one place are each found out
 
-The archive is that of `rt staticlib capi`. It needs gcc, g++ and nm. Standard library only, Python 3.9 or later.
+The archive is that of ./archive. It needs gcc, g++ and nm. Standard library only, Python 3.9 or later.
 """
 import re
 import subprocess

@@ -1,4 +1,4 @@
-"""The interface as the Rattle code has it: what crates/capi exports, and the structs and limits of the crates behind it."""
+"""The interface as the Rattle code has it: what crates/capi_c exports, and the structs and limits of the crates behind it."""
 import re
 from pathlib import Path
 
@@ -58,7 +58,7 @@ class Sources:
                 self.values.setdefault(name, {})[crate] = value
         self.repr_c = {}
         for crate, text in self.texts.items():
-            for name, body in re.findall(r"#\[repr\(C\)\]\s*pub struct (\w+) \{(.*?)\}", text, re.S):
+            for name, body in re.findall(r"#\[repr\(C\)\]\s*(?:#\[[^\]]*\]\s*)*pub struct (\w+) \{(.*?)\}", text, re.S):
                 if name in self.repr_c:
                     raise ValueError(f"two structs for C have the name {name}")
                 self.repr_c[name] = (crate, body)
@@ -67,7 +67,7 @@ class Sources:
         """The number of a constant that a crate declares or brings in by `use`."""
         declared = self.values[name]
         if crate not in declared:
-            crate = re.search(rf"\buse (\w+)::{name};", self.texts[crate]).group(1)
+            crate = re.search(rf"\buse (\w+)::(?:{name}|\{{[^}}]*\b{name}\b[^}}]*\}});", self.texts[crate]).group(1)
         return self.number(crate, declared[crate])
 
     def number(self, crate, text):
@@ -100,14 +100,27 @@ class Sources:
         crate, body = self.repr_c[name]
         return [(field, self.kind(crate, kind)) for field, kind in re.findall(r"pub (\w+): ([^,]+),", body)]
 
+    def same_clauses(self):
+        """Each function of `capi` is an export of `capi_c`, of the same signature and clauses, and there is no other."""
+        heads = {}
+        for crate, before in (("capi", "pub fn"), ("capi_c", '#[unsafe(no_mangle)] pub extern "C" fn')):
+            text = re.sub(r"(?<=\() |,? (?=\))", "", " ".join(self.texts[crate].split()))
+            heads[crate] = set(re.findall(re.escape(before) + r" (yebkuzan_\w+\(.*?\}) \{ ", text))
+            if len(heads[crate]) != text.count(before):
+                raise ValueError(f"not every function of {crate} reads")
+        if heads["capi"] != heads["capi_c"]:
+            names = sorted({head.split("(")[0] for head in heads["capi"] ^ heads["capi_c"]})
+            raise ValueError(f"capi and capi_c differ in {', '.join(names)}")
+
     def functions(self):
+        self.same_clauses()
         found = {}
         for name, parameters, answer in re.findall(
-            r"#\[no_mangle\]\s*pub extern \"C\" fn (\w+)\((.*?)\) -> (\w+)", self.texts["capi"], re.S
+            r"#\[unsafe\(no_mangle\)\]\s*pub extern \"C\" fn (\w+)\((.*?)\) -> (\w+)", self.texts["capi_c"], re.S
         ):
             pairs = [p.split(":") for p in parameters.split(",") if p.strip()]
             found[name] = Function(
-                self.kind("capi", answer), [(PARAMETERS.get(p.strip(), p.strip()), self.kind("capi", k)) for p, k in pairs]
+                self.kind("capi_c", answer), [(PARAMETERS.get(p.strip(), p.strip()), self.kind("capi_c", k)) for p, k in pairs]
             )
         return found
 

@@ -6,7 +6,7 @@
     python3 tests/stack/check.py --wrong   sources and compiled writers that are wrong in one place are each found out
 
 Compiled code has no array where no instruction names the stack pointer or data of the archive: what is left on the stack are return
-addresses and pushed registers, and these are counted, on every path. The archive is that of `rt staticlib capi`, for x86-64. It needs gcc and objdump.
+addresses and pushed registers, and these are counted, on every path. The archive is that of ./archive, for x86-64. It needs gcc and objdump.
 Standard library only, Python 3.9 or later.
 """
 import re
@@ -34,10 +34,24 @@ def bound(text):
 # Sources.
 
 
+def without_clauses(text):
+    """The text without its `requires` and `ensures`, each from its word to the brace that closes it."""
+    kept, at = [], 0
+    for head in re.finditer(r"\b(?:requires|ensures)\b\*?(?: \w+)? \{", text):
+        if head.start() < at:
+            continue
+        kept.append(text[at : head.start()])
+        at, depth = head.end(), 1
+        while depth:
+            depth += {"{": 1, "}": -1}.get(text[at], 0)
+            at += 1
+    return "".join([*kept, text[at:]])
+
+
 def functions(crate, text):
     """Each function of a source by its crate and name: its signature and body, without comments and contracts."""
     text = re.sub(r"//[^\n]*", "", text)
-    text = re.sub(r"ensures \{.*?⌝ \}", "", text, flags=re.S)
+    text = without_clauses(text)
     found = {}
     for head in re.finditer(r"\bfn (\w+)\(", text):
         at = depth = 0
@@ -64,7 +78,7 @@ def called(crate, text):
 
 def source_faults(known):
     """The functions that the writer reaches and that have an array: a type or a literal in brackets that is no slice and no index."""
-    reached, left, faults = set(), [("capi", WRITER)], []
+    reached, left, faults = set(), [("capi_c", WRITER)], []
     while left:
         one = left.pop()
         name = "::".join(one)
