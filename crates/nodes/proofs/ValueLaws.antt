@@ -6,15 +6,13 @@ use Prim.Native.Nat.{ℕ, ◌+◌, ◌<◌, ◌≤◌}
 use native.Mathlib.Omega.{arith}
 use lib.ListN.{length, take, drop, length-take, length-drop}
 use borrow.Author.Tests.{le-leb, lt-leb}
-use types.Run.{OneOf, miss}
-use denote.Enum.Declared.{tag_of}
+use mathlib.Core.Logic.{◌⊎◌, inl, inr}
 use Rattle.strings.specs.Strings.{Text, ended}
 use Rattle.header.specs.declared.Blocks.{Blocks}
 use Rattle.names.specs.Names.{same_text}
 use Rattle.tokens.specs.declared.Cursor.{Cursor}
 use Rattle.tokens.specs.declared.Step.{Step}
 use Rattle.tokens.specs.declared.Step.TheVariants.{BeginNode, EndNode, Property, Nop, End, Fault}
-use Rattle.tokens.specs.contracts.Step.{the_type}
 use Rattle.tokens.specs.Steps.{padded, step_at}
 use Rattle.tokens.specs.Tokens.{fault, tokens}
 use Rattle.tokens.proofs.TokenList.{tokens-step, follow, view, Is, begins, ends, holds, skips, stops, cut, unknown, none, seen}
@@ -56,14 +54,15 @@ module _ (s : List ℕ) (stop : ℕ) (names : ℕ → Text) (at : ℕ) where
     held-nop e = rw (tokens-step s stop names at e)
 
     -- neither a property nor a no-operation
-    pub held_none : (x : Step) → x ≡ step_at s stop at → OneOf (0 ∷ 1 ∷ 4 ∷ 5 ∷ []) (tag_of the_type x) → held_in n (tokens s stop names at) ≡ Missing
+    pub held_none : {x : Step}
+        → x ≡ step_at s stop at
+        → ((p : ℕ) × (c : Cursor) × (x ≡ BeginNode p c)) ⊎ (((p : ℕ) × (c : Cursor) × (x ≡ EndNode p c)) ⊎ (((p : ℕ) × (x ≡ End p)) ⊎ ((p : ℕ) × (x ≡ Fault p))))
+        → held_in n (tokens s stop names at) ≡ Missing
     unfolding held_in
-    held_none (BeginNode p c) e k = rw (tokens-step s stop names at (sym e))
-    held_none (EndNode p c) e k = rw (tokens-step s stop names at (sym e))
-    held_none (Property p v l o c) e k = absurd (miss (0 ∷ 1 ∷ 4 ∷ 5 ∷ []) 2 tt k)
-    held_none (Nop p c) e k = absurd (miss (0 ∷ 1 ∷ 4 ∷ 5 ∷ []) 3 tt k)
-    held_none (End p) e k = rw (tokens-step s stop names at (sym e))
-    held_none (Fault p) e k = rw (tokens-step s stop names at (sym e))
+    held_none e (inl w) = rw (tokens-step s stop names at (sym e ∙ w.2))
+    held_none e (inr (inl w)) = rw (tokens-step s stop names at (sym e ∙ w.2))
+    held_none e (inr (inr (inl w))) = rw (tokens-step s stop names at (sym e ∙ w.1))
+    held_none e (inr (inr (inr w))) = rw (tokens-step s stop names at (sym e ∙ w.1))
 
     module _ {p v l o : ℕ} {c : Cursor} (e : step_at s stop at ≡ Property p v l o c) {r : Bool} (k : r ≡ same_text (names o) (ended n)) where
       pub held-other : r ≡ false → held_in n (tokens s stop names at) ≡ held_in n (tokens s stop names c.at)
