@@ -1,5 +1,5 @@
 -- What the parts of the walk's code answer. The promise of `check_tree` rests on `Checked`, not on this file.
-use Rattle.std.specs.Prelude.{ℕ, zero, suc, ◌+◌, ◌*◌, ◌/◌, ◌≤◌, ◌≡◌, List, [], ◌∷◌, ◌++◌, eqb, length}
+use Rattle.std.specs.Prelude.{ℕ, zero, suc, ◌+◌, ◌*◌, ◌/◌, ◌≤◌, ◌≡◌, List, [], ◌∷◌, ◌++◌, eqb}
 use Rattle.strings.specs.Strings.{ended, unended, same_bytes}
 use Rattle.names.specs.Names.{node_name_at}
 use Rattle.refusal.specs.Refusal.{number_of, Outcome, Placed, placed, refuse_at, fault as refused_at}

@@ -1,6 +1,5 @@
 -- `stringlist::scan` meets its contract. The loop's invariant: the scan from here on stops where the whole one does. Assumes nothing.
 use mathlib.Core.Path.{refl, sym, ◌∙◌}
-use Prim.Native.Nat.{◌-◌}
 use native.Mathlib.Omega.{arith}
 use Rattle.stringlist.proofs.StopLaws.{found, found_within, stop-past, stop-none, stop-same, stop-sought, stop-later}
 use Rattle.stringlist.proofs.scan.Goals as goal

@@ -1,7 +1,6 @@
 -- `walk::last_at` meets its contract. The loop's invariant is `Outside`. Assumes nothing.
 use mathlib.Core.Path.{sym, ◌∙◌}
 use native.Mathlib.Omega.{arith}
-use Prim.Native.Nat.{◌-◌}
 use Rattle.tokens.proofs.TokenList.{nop-moves}
 use Rattle.walk.proofs.Outside.{outside-begins, outside-nop, end-room, last-accepted, last-early, last-begin, last-end-node, last-property, last-fault}
 use Rattle.walk.proofs.last_at.Goals as goal

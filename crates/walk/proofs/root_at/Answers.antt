@@ -1,7 +1,6 @@
 -- `walk::root_at` meets its contract. The loop's invariant is `Outside`. Assumes nothing.
 use mathlib.Core.Path.{sym, ◌∙◌}
 use native.Mathlib.Omega.{arith}
-use Prim.Native.Nat.{◌-◌}
 use Rattle.tokens.proofs.TokenList.{nop-moves}
 use Rattle.walk.proofs.Flow.{stops-with}
 use Rattle.walk.proofs.Outside.{outside-begins, outside-nop, root-enters, root-room, root-stops, root-end-node, root-property, root-end, root-fault}
