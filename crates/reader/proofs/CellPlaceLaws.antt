@@ -6,7 +6,6 @@ use native.Mathlib.Omega.{arith}
 use lib.ListN.{length, get_or, take, drop, length-take, length-drop}
 use lib.Seq.{get_or-take, get_or-drop}
 use Rattle.cells.specs.Cells.{cell_at}
-use Rattle.cells.specs.Rows.{each}
 use Rattle.cells.proofs.Rows.{length-each, row-at}
 use Rattle.nodes.specs.Values.{Value, cells_of}
 use Rattle.nodes.specs.Parts.{Lies}

@@ -1,0 +1,6 @@
+-- `reader::cell::read_bit` meets its contract. Assumes nothing.
+use Rattle.reader.proofs.RangeLaws.{bit_is}
+use Rattle.reader.proofs.cell.read_bit.Goals as goal
+
+pub returns : goal.returns
+returns c = bit_is _ c.bit_set-needed.ensures c.read_cell.ensures c.at_most.ensures
