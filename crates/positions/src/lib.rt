@@ -35,6 +35,7 @@ pub enum Position {
 }
 
 // Whether a bit of a word is set, the lowest being bit 0.
+#[tactic(auto, using(crate::proofs::BitLaws::bit_test))]
 pub fn bit_set(word: u64, i: u32) -> bool
     ensures { result ≡ bit word i }
 {

@@ -1,7 +1,5 @@
 -- `positions::below` meets its contract. The loop: the words passed are those of the positions below the bound. Assumes nothing.
-use Prim.Native.Nat.{◌-◌}
 use native.Mathlib.Omega.{arith}
-use Rattle.positions.specs.Sets.{word_below}
 use Rattle.positions.proofs.SetCodeLaws.{word-list}
 use Rattle.positions.proofs.FillLaws.{filled_none, filled_more, first-all}
 use borrow.Author.Rules.{rules}

@@ -1,11 +1,8 @@
 -- `positions::bit_set` meets its contract. Assumes nothing.
 use mathlib.Core.Path.{sym}
-use Rattle.positions.proofs.BitLaws.{bit_test, bit_past}
+use Rattle.positions.proofs.BitLaws.{bit_past}
 use borrow.Author.Rules.{rules}
 use Rattle.positions.proofs.bit_set.Goals as goal
-
-pub returns-then-i-lt-WORD_BITS : goal.returns-then-i-lt-WORD_BITS
-returns-then-i-lt-WORD_BITS c = bit_test _ _
 
 pub returns-else-i-lt-WORD_BITS : goal.returns-else-i-lt-WORD_BITS
 returns-else-i-lt-WORD_BITS c = sym (bit_past _ 64 _ (search rules) c.if-i-lt-WORD_BITS.false)
