@@ -54,10 +54,8 @@ fn put_size(out: &mut impl Write, exponent: u32) -> io::Result<()> {
 }
 
 fn put_sizes(out: &mut impl Write, exponents: &[u32]) -> io::Result<()> {
-    let mut i = 0;
-    while i < exponents.len() {
-        put_size(out, exponents[i])?;
-        i += 1;
+    for exponent in exponents {
+        put_size(out, *exponent)?;
     }
     Ok(())
 }
@@ -76,21 +74,17 @@ fn put_descriptor(out: &mut impl Write, descriptor: Descriptor) -> io::Result<()
     put_number(out, descriptor.base as u64)?;
     put_number(out, descriptor.encoding as u64)?;
     put_number(out, descriptor.count as u64)?;
-    let mut i: usize = 0;
-    while i < PAGES {
+    for i in 0..PAGES {
         let page = descriptor.pages[i];
         put_number(out, page.exponent as u64)?;
         put_number(out, page.encoding as u64)?;
-        i += 1;
     }
     Ok(())
 }
 
 fn put_descriptors(out: &mut impl Write, table: SegmentTable) -> io::Result<()> {
-    let mut i: usize = 0;
-    while i < DESCRIPTORS {
+    for i in 0..DESCRIPTORS {
         put_descriptor(out, table.descriptors[i])?;
-        i += 1;
     }
     Ok(())
 }
@@ -106,12 +100,10 @@ pub(crate) fn segment_page_sizes(out: &mut impl Write, value: &[u8]) -> io::Resu
 }
 
 fn put_encodings(out: &mut impl Write, table: RadixTable) -> io::Result<()> {
-    let mut i: usize = 0;
-    while i < MOST_SIZES {
+    for i in 0..MOST_SIZES {
         let encoding = table.encodings[i];
         put_number(out, encoding.ap as u64)?;
         put_number(out, encoding.exponent as u64)?;
-        i += 1;
     }
     Ok(())
 }
@@ -137,14 +129,17 @@ pub(crate) fn pa_features(out: &mut impl Write, bytes: &[u8]) -> io::Result<bool
     let table = read.table;
     put_start(out, b'a', refusal)?;
     put_bytes(out, &table.raw)?;
-    put_number(out, table.data_streams as u64)?;
-    put_number(out, table.vector as u64)?;
-    put_number(out, table.vector_scalar as u64)?;
-    put_number(out, table.vector_crypto as u64)?;
-    put_number(out, table.transactional_memory as u64)?;
-    put_number(out, table.copy_paste as u64)?;
-    put_number(out, table.radix_translation as u64)?;
-    put_number(out, table.second_watchpoint as u64)?;
+    let flags = [
+        table.data_streams,
+        table.vector,
+        table.vector_scalar,
+        table.vector_crypto,
+        table.transactional_memory,
+        table.copy_paste,
+        table.radix_translation,
+        table.second_watchpoint,
+    ];
+    put_bytes(out, &flags)?;
     put_number(out, table.coprocessor)?;
     put_bytes(out, &table.raw_later)?;
     Ok(true)

@@ -30,30 +30,24 @@ pub(crate) fn put_start(out: &mut impl Write, kind: u8, refusal: Refusal) -> io:
 
 // Puts bytes as numbers.
 pub(crate) fn put_bytes(out: &mut impl Write, bytes: &[u8]) -> io::Result<()> {
-    let mut i = 0;
-    while i < bytes.len() {
-        put_number(out, wide(bytes[i]))?;
-        i += 1;
+    for byte in bytes {
+        put_number(out, wide(*byte))?;
     }
     Ok(())
 }
 
 // Puts cells as numbers.
 pub(crate) fn put_cells(out: &mut impl Write, cells: &[u32]) -> io::Result<()> {
-    let mut i = 0;
-    while i < cells.len() {
-        put_number(out, wider(cells[i]))?;
-        i += 1;
+    for cell in cells {
+        put_number(out, wider(*cell))?;
     }
     Ok(())
 }
 
 // Puts words as numbers.
 pub(crate) fn put_words(out: &mut impl Write, words: &[u64]) -> io::Result<()> {
-    let mut i = 0;
-    while i < words.len() {
-        put_number(out, words[i])?;
-        i += 1;
+    for word in words {
+        put_number(out, *word)?;
     }
     Ok(())
 }

@@ -108,12 +108,12 @@ fn run_vector(input: &mut impl Read, out: &mut impl Write, bytes: &mut [u8]) -> 
     run_value(input, out, head[0], &mut bytes[..length])
 }
 
-// A proved loop has to end, and nothing says that the input does. So the loop counts its turns down, from a number
-// that no run uses up.
+// A proved loop has to end, and nothing says that the input does. So the loop has a number of turns that no run uses up.
 fn run_vectors(input: &mut impl Read, out: &mut impl Write, bytes: &mut [u8]) -> io::Result<()> {
-    let mut turns = u64::MAX;
-    while 0 < turns && run_vector(input, out, bytes)? {
-        turns -= 1;
+    for _ in 0..u64::MAX {
+        if !run_vector(input, out, bytes)? {
+            return Ok(());
+        }
     }
     Ok(())
 }

@@ -56,15 +56,13 @@ fn wide(x: u8) -> u64
 // A number: seven bits a byte, the highest first, with the top bit set in all bytes but the last.
 pub(crate) fn number_at(value: &[u8], from: usize) -> Number {
     let mut number: u64 = 0;
-    let mut at = from;
-    while at < value.len() {
+    for at in from..value.len() {
         let byte = wide(value[at]);
         number = number % SEVEN_LEFT * 128 + byte % 128;
-        at += 1;
         if byte < 128 {
             return Number {
                 value: number,
-                next: at,
+                next: at + 1,
             };
         }
     }
@@ -82,12 +80,10 @@ pub(crate) fn narrow(number: u64) -> u32 {
 fn feature_at(value: &[u8], from: usize) -> FeatureRead {
     let mut numbers: [u32; FEATURE_NUMBERS] = [0; FEATURE_NUMBERS];
     let mut at = from;
-    let mut i: usize = 0;
-    while i < FEATURE_NUMBERS {
+    for i in 0..FEATURE_NUMBERS {
         let number = number_at(value, at);
         numbers[i] = narrow(number.value);
         at = number.next;
-        i += 1;
     }
     FeatureRead {
         feature: feature_of(numbers),
@@ -118,12 +114,10 @@ fn slots_at(value: &[u8], from: usize, record: Record, position: usize, many: us
 {
     let mut later = record;
     let mut at = from;
-    let mut j: usize = 0;
-    while j < many {
+    for j in 0..many {
         let number = number_at(value, at);
         later.slots[MOST_DEPENDENCIES * position + j] = (number.value % 65536) as u16;
         at = number.next;
-        j += 1;
     }
     RecordRead {
         record: later,
@@ -176,10 +170,8 @@ pub(crate) fn record_at(value: &[u8], from: usize) -> RecordRead {
         record: bare_record(narrow(isa.value), narrow(count.value)),
         next: rows.next,
     };
-    let mut i: u64 = 0;
-    while i < rows.value {
+    for _ in 0..rows.value {
         read = row_at(value, read.next, read.record);
-        i += 1;
     }
     read
 }
@@ -215,12 +207,10 @@ pub(crate) fn asked_at(value: &[u8], from: usize, record: Record) -> Asked {
 pub(crate) fn rows_at(value: &[u8], from: usize) -> RowsRead {
     let mut words: [u64; TABLE_WORDS] = [0; TABLE_WORDS];
     let mut at = from;
-    let mut i: usize = 0;
-    while i < TABLE_WORDS {
+    for i in 0..TABLE_WORDS {
         let number = number_at(value, at);
         words[i] = number.value;
         at = number.next;
-        i += 1;
     }
     RowsRead {
         rows: Rows { words },

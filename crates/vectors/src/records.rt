@@ -32,21 +32,17 @@ fn slots_of(slots: &[u16; SLOTS], position: usize) -> [u32; MOST_DEPENDENCIES]
     requires { position < 64 }
 {
     let mut own: [u32; MOST_DEPENDENCIES] = [0; MOST_DEPENDENCIES];
-    let mut j: usize = 0;
-    while j < MOST_DEPENDENCIES {
+    for j in 0..MOST_DEPENDENCIES {
         own[j] = wide(slots[MOST_DEPENDENCIES * position + j]);
-        j += 1;
     }
     own
 }
 
 fn is_zero(numbers: &[u32]) -> bool {
-    let mut i = 0;
-    while i < numbers.len() {
-        if numbers[i] != 0 {
+    for number in numbers {
+        if *number != 0 {
             return false;
         }
-        i += 1;
     }
     true
 }
@@ -68,12 +64,10 @@ fn put_row(
 
 // Puts the rows of all positions.
 fn put_rows(out: &mut impl Write, record: Record) -> io::Result<()> {
-    let mut i: usize = 0;
-    while i < MOST_FEATURES {
+    for i in 0..MOST_FEATURES {
         let numbers = numbers_of(record.features[i]);
         let slots = slots_of(&record.slots, i);
         put_row(out, i, &numbers, &slots)?;
-        i += 1;
     }
     Ok(())
 }

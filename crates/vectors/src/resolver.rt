@@ -112,10 +112,8 @@ fn put_chain_at(
 fn put_chains(out: &mut impl Write, asked: Asked, value: &mut [u8]) -> io::Result<usize> {
     let queries = number_at(value, asked.next);
     let mut at = queries.next;
-    let mut i: u64 = 0;
-    while i < queries.value {
+    for _ in 0..queries.value {
         at = put_chain_at(out, asked, value, at)?;
-        i += 1;
     }
     Ok(at)
 }
@@ -146,10 +144,8 @@ fn put_queries(
 ) -> io::Result<usize> {
     let queries = number_at(value, from);
     let mut at = queries.next;
-    let mut i: u64 = 0;
-    while i < queries.value {
+    for _ in 0..queries.value {
         at = put_query(out, kind, record, value, at)?;
-        i += 1;
     }
     Ok(at)
 }
