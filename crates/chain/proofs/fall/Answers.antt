@@ -13,17 +13,13 @@ returns-then-not-member c = fall-out _ _ c.loop-k.invariant (sym c.member.ensure
 
 pub returns-then-subset : goal.returns-then-subset
 returns-then-subset c =
-    let swept = c in
-    let asked = swept in
-    fall-stays _ _ asked.loop-k.invariant swept.layer-t.ensures (sym c.subset.ensures ∙ c.if-subset.true)
-    (sym asked.member.ensures ∙ swept.if-not-member.false)
+    fall-stays _ _ c.loop-k.invariant c.layer-t.ensures (sym c.subset.ensures ∙ c.if-subset.true)
+    (sym c.member.ensures ∙ c.if-not-member.false)
 
 pub loop-k-preserved : goal.loop-k-preserved
 loop-k-preserved c =
-    let swept = c in
-    let asked = swept in
-    fall-more _ _ asked.loop-k.invariant (omega arith) (sym asked.member.ensures ∙ swept.if-not-member.false)
-    swept.layer-t.ensures
+    fall-more _ _ c.loop-k.invariant (omega arith) (sym c.member.ensures ∙ c.if-not-member.false)
+    c.layer-t.ensures
 
 pub returns : goal.returns
 returns c = fall_ends _ _ c.loop-k.invariant (omega arith) c.member-2.ensures

@@ -15,16 +15,14 @@ bounds-out-place c = omega (arith, write-length c.loop-k.invariant, c.loop-k.inv
 
 pub loop-k-preserved : goal.loop-k-preserved
 loop-k-preserved c =
-    let next = c in
-    write-more next.loop-k.invariant (omega arith) next.row.ensures next.lowest_outside.ensures c.in-At.is
+    write-more c.loop-k.invariant (omega arith) c.row.ensures c.lowest_outside.ensures c.in-At.is
 
 pub shape_of-out-in-Nowhere : goal.shape_of-out-in-Nowhere
 shape_of-out-in-Nowhere c = simp length-set (write-length c.loop-k.invariant)
 
 pub returns-in-Nowhere : goal.returns-in-Nowhere
 returns-in-Nowhere c =
-    let next = c in
-    write-stops next.loop-k.invariant (omega arith) next.row.ensures next.lowest_outside.ensures c.in-Nowhere.is
+    write-stops c.loop-k.invariant (omega arith) c.row.ensures c.lowest_outside.ensures c.in-Nowhere.is
 
 pub overflow_cast-out-2 : goal.overflow_cast-out-2
 overflow_cast-out-2 c = omega (arith, write_low c.loop-k.invariant)

@@ -14,11 +14,9 @@ tested_member-x-requires c = let used = c.used.ensures ∙ used_low _ _ (omega a
 
 pub loop-i-preserved : goal.loop-i-preserved
 loop-i-preserved c =
-    let loop = c in
-    let start = c in
     let used = c.used.ensures ∙ used_low _ _ (omega arith) in (
       omega arith,
-      look-member _ _ (slots-wider _ _) start.requires _ (omega arith) _ _ loop.loop-i.invariant.1 _ (λ j h l ne. omega arith)
+      look-member _ _ (slots-wider _ _) c.requires _ (omega arith) _ _ c.loop-i.invariant.1 _ (λ j h l ne. omega arith)
           (slots-in _ _ _ used _) (slots-in-none _ _ _ used) c.tested_member-x.ensures,
     )
 

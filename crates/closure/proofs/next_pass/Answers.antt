@@ -13,8 +13,7 @@ loop-y-init c = (looked-again _ _ c.empty.ensures _ _ c.requires.1, c.requires.1
 pub returns-in-Nowhere : goal.returns-in-Nowhere
 returns-in-Nowhere c =
     let none = picked_none _ c.outermost.ensures c.in-Nowhere.is in
-    let start = c in
-    looked-all _ _ _ c.loop-y.invariant.0 (λ j h. none j (omega (arith, start.requires.0)))
+    looked-all _ _ _ c.loop-y.invariant.0 (λ j h. none j (omega (arith, c.requires.0)))
 
 pub tested-y-requires : goal.tested-y-requires
 tested-y-requires c =
@@ -28,12 +27,10 @@ loop-y-smaller c =
 
 pub loop-y-preserved : goal.loop-y-preserved
 loop-y-preserved c =
-    let loop = c in
-    let start = loop in
     let picked = picked-member _ c.outermost.ensures c.in-At.is in
-    let low = loop.loop-y.invariant.1 _ picked.0 picked.1 in
+    let low = c.loop-y.invariant.1 _ picked.0 picked.1 in
     let used = c.used.ensures ∙ used_low _ _ (omega arith) in (
-      look-tested _ _ (slots-wider _ _) start.requires.0 _ low _ _ loop.loop-y.invariant.0 _
-          (λ j h z ne. todo-done _ _ c.remove-todo.ensures j (omega (arith, start.requires.0)) z ne) (slots-in _ _ _ used _) c.tested-y.ensures,
-      λ j h m. loop.loop-y.invariant.1 j h (todo-within _ _ c.remove-todo.ensures j h m),
+      look-tested _ _ (slots-wider _ _) c.requires.0 _ low _ _ c.loop-y.invariant.0 _
+          (λ j h z ne. todo-done _ _ c.remove-todo.ensures j (omega (arith, c.requires.0)) z ne) (slots-in _ _ _ used _) c.tested-y.ensures,
+      λ j h m. c.loop-y.invariant.1 j h (todo-within _ _ c.remove-todo.ensures j h m),
     )

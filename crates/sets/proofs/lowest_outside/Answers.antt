@@ -11,15 +11,11 @@ loop-w-init c = none-begins _ _
 
 pub overflow_cast-i : goal.overflow_cast-i
 overflow_cast-i c =
-    let loop = c in
-    let start = loop in
-    omega (arith, trailing_le 64 (word_outside start.args.a.words start.args.b.words loop.loop-w.w))
+    omega (arith, trailing_le 64 (word_outside c.args.a.words c.args.b.words c.loop-w.w))
 
 pub overflow_add-i : goal.overflow_add-i
 overflow_add-i c =
-    let loop = c in
-    let start = loop in
-    omega (arith, trailing_le 64 (word_outside start.args.a.words start.args.b.words loop.loop-w.w))
+    omega (arith, trailing_le 64 (word_outside c.args.a.words c.args.b.words c.loop-w.w))
 
 pub returns-then-outside-ne0 : goal.returns-then-outside-ne0
 returns-then-outside-ne0 c =
