@@ -4,6 +4,6 @@ use Rattle.capi.proofs.resolver.yebkuzan_chain.Goals as goal
 
 pub returns : goal.returns
 returns c = record {
-      result_value = c.of_chain.ensures ∙ c.chain.ensures.result_value;
-      out_after = c.chain.ensures.out_after;
-    }
+  result_value = c.of_chain.ensures ∙ c.chain.ensures.result_value;
+  out_after = c.chain.ensures.out_after;
+}
