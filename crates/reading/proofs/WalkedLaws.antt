@@ -16,7 +16,6 @@ use Rattle.walk.specs.declared.Checked.{Checked}
 use Rattle.walk.specs.Checked.{check_tree, layout_of, checked_outcome}
 use Rattle.walk.specs.Faults.{CheckEnds, answered, header_refused, walk_refused}
 use Rattle.walk.proofs.CheckEnds.{check-ends, check-answered}
-use Rattle.nodes.specs.Values.{value, number}
 use Rattle.reading.specs.Reading.{containers_of, read_accepted, after_walk, read_record}
 use Rattle.reading.proofs.Containers.{offsets, containers-noted}
 
