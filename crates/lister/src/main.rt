@@ -24,9 +24,10 @@ fn print_line(rt: &(impl Print + Eprint), tree: &[u8], k: u32) -> bool {
 }
 
 fn print_list(rt: &(impl Print + Eprint), tree: &[u8]) {
-    let mut k: u32 = 0;
-    while k < u32::MAX && print_line(rt, tree, k) {
-        k += 1;
+    for k in 0..u32::MAX {
+        if !print_line(rt, tree, k) {
+            return;
+        }
     }
 }
 
