@@ -1,10 +1,11 @@
 """Holds include/yebkuzan.h to the Rattle code, and the archive to both.
 
-    python3 tests/header/check.py           constants, structs and functions of the header are those of crates/; a C compiler lays the
+    python3 tests/header/check.py           constants, structs and functions of the header are those of crates/, and the exports of capi_c
+                                            have the signatures and clauses of the functions of capi; a C compiler lays the
                                             structs out as the code does, and takes the header as C99 and as C++; the archive
                                             target/staticlib/libcapi.a defines those functions and needs no symbol that
                                             docs/LINKING.md does not list; calls.c calls them all
-    python3 tests/header/check.py --wrong   headers and archives that are wrong in one place are each found out
+    python3 tests/header/check.py --wrong   headers, exports and archives that are wrong in one place are each found out
 
 The archive is that of ./archive. It needs gcc, g++ and nm. Standard library only, Python 3.9 or later.
 """
@@ -155,9 +156,17 @@ WRONG_LAYOUTS = [
 ]
 
 
+# Changes of the exports in capi_c, each of which is then not the function of capi.
+WRONG_EXPORTS = [
+    ("an export of another name", "fn yebkuzan_words(", "fn yebkuzan_word("),
+    ("an export of another clause", "permitted_of r level g }", "permitted_of r 0 g }"),
+    ("an export of another parameter", "edition: u32", "edition: u64"),
+]
+
+
 def altered(text, old, new):
     if old not in text:
-        raise SystemExit(f"the header has no text {old!r} to change")
+        raise SystemExit(f"no text {old!r} to change")
     return text.replace(old, new, 1)
 
 
@@ -172,6 +181,15 @@ def wrong(wanted, text):
         tried += 1
         if not layout_faults(wanted, altered(text, old, new)):
             missed.append(f"{what}, by the compiler")
+    for what, old, new in WRONG_EXPORTS:
+        tried += 1
+        code = sources.Sources(ROOT / "crates")
+        code.texts["capi_c"] = altered(code.texts["capi_c"], old, new)
+        try:
+            code.same_clauses()
+            missed.append(what)
+        except ValueError:
+            pass
     exported = set(wanted.functions)
     for what, defined, needed in [
         ("a function that is not in the archive", exported - {"yebkuzan_read"}, {"memcpy"}),
@@ -192,7 +210,7 @@ def main():
         missed, tried = wrong(wanted, text)
         if missed:
             raise SystemExit("not found out: " + "; ".join(missed))
-        print(f"header: {tried} wrong headers and archives, each found out")
+        print(f"header: {tried} wrong headers, exports and archives, each found out")
         return
     faults = header_faults(wanted, text) + layout_faults(wanted, text)
     faults += archive_faults(wanted, symbols("-g", "--defined-only"), symbols("-u"), listed())
