@@ -1,6 +1,0 @@
--- `capi::cpu_tables::yebkuzan_segment_sizes` meets its contract. Assumes nothing.
-use mathlib.Core.Path.{◌∙◌}
-use Rattle.capi.proofs.cpu_tables.yebkuzan_segment_sizes.Goals as goal
-
-pub returns : goal.returns
-returns c = c.of_sizes.ensures ∙ c.segment_sizes.ensures
