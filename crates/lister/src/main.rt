@@ -2,6 +2,8 @@
 // a list too, of one line.
 #![tactic(auto)]
 
+ghost use Rattle.std.specs.Prelude.{◌≤◌, length, IfOk};
+
 use header::LARGEST_TREE;
 use listing::LONGEST_LINE;
 use std::io;
@@ -31,13 +33,28 @@ fn print_list(rt: &(impl Print + Eprint), tree: &[u8]) {
     }
 }
 
+// Reads until the buffer is full or the input ends, and answers how many bytes it put at the buffer's front.
+fn read_full(input: &mut impl Read, buffer: &mut [u8]) -> io::Result<usize>
+    ensures { IfOk result (λ n. n ≤ length buffer.old) }
+{
+    let mut done = 0;
+    while done < buffer.len() {
+        let got = input.read(&mut buffer[done..])?;
+        if got == 0 {
+            return Ok(done);
+        }
+        done += got;
+    }
+    Ok(done)
+}
+
 fn main(rt: HostRuntime) {
     // What follows the most bytes of a tree in the input changes no line, so that it is not read.
-    let mut tree = Vec::new(rt.alloc());
-    let mut input = rt.stdin().take(LARGEST_TREE as u64);
-    if input.read_to_end(&mut tree).is_err() {
-        let _ = eprintln!(rt; "lister: the tree cannot be read");
-        return;
+    let mut tree: [u8; LARGEST_TREE] = [0; LARGEST_TREE];
+    match read_full(&mut rt.stdin(), &mut tree) {
+        Ok(length) => print_list(&rt, &tree[..length]),
+        Err(_) => {
+            let _ = eprintln!(rt; "lister: the tree cannot be read");
+        }
     }
-    print_list(&rt, &tree);
 }

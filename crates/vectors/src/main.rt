@@ -13,7 +13,7 @@ mod resolver;
 mod trees;
 
 use std::io;
-use std::io::{BufWriter, Read, Write};
+use std::io::{Read, Write};
 
 // The length that the first five bytes of a vector give.
 fn length_of(head: &[u8; 5]) -> usize {
@@ -119,8 +119,6 @@ fn run_vectors(input: &mut impl Read, out: &mut impl Write, bytes: &mut [u8]) ->
 }
 
 fn main(rt: HostRuntime) -> io::Result<()> {
-    let mut bytes = vec![in rt.alloc(); 0u8; 70000]?;
-    let mut out = BufWriter::new(rt.alloc(), rt.stdout())?;
-    run_vectors(&mut rt.stdin(), &mut out, &mut bytes)?;
-    out.flush()
+    let mut bytes = [0u8; 70000];
+    run_vectors(&mut rt.stdin(), &mut rt.stdout(), &mut bytes)
 }
