@@ -20,7 +20,7 @@ sys.dont_write_bytecode = True
 
 import header  # noqa: E402
 import sources  # noqa: E402
-from interface import differences, struct_layout  # noqa: E402
+from interface import differences, layout, struct_layout  # noqa: E402
 
 ROOT = Path(__file__).resolve().parents[2]
 HEADER = ROOT / "include/yebkuzan.h"
@@ -38,13 +38,15 @@ def header_faults(wanted, text):
 
 
 def asserts(wanted):
-    """C11 that holds each struct's size and each field's offset to those of the code."""
+    """C11 that holds the size of each struct, and offset and size of each field, to those of the code."""
     lines = ['#include "yebkuzan.h"']
-    for name in wanted.structs:
+    for name, fields in wanted.structs.items():
         size, _, offsets = struct_layout(wanted, name)
         lines.append(f'_Static_assert(sizeof({name}) == {size}, "{name}");')
-        for field, offset in offsets.items():
-            lines.append(f'_Static_assert(offsetof({name}, {field}) == {offset}, "{name}.{field}");')
+        for field, kind in fields:
+            size, _ = layout(wanted, kind)
+            lines.append(f'_Static_assert(offsetof({name}, {field}) == {offsets[field]}, "{name}.{field}");')
+            lines.append(f'_Static_assert(sizeof((({name} *)0)->{field}) == {size}, "{name}.{field}");')
     return "\n".join(lines) + "\n"
 
 
