@@ -1,11 +1,11 @@
 -- The table of refusals (document 01, "Refusal numbers"), and what a call answers beside the number.
-use Rattle.std.specs.Prelude.{ℕ}
+use Rattle.std.specs.Prelude.{ℕ, Result, Ok, Err, Option, None, Some}
 use Rattle.refusal.specs.declared.Refusal.{Refusal}
-use Rattle.refusal.specs.declared.Refusal.TheVariants.{None, TreeLength, Magic, TreeSize, Version, BlockBounds, Token, Name, TooMany, Repeated, NotFound, PropertyForm, OutOfRange, UnknownPhandle, RecordForm, Level, Position, FeatureEnabled, BufferLength, NotAscending, UnitText}
+use Rattle.refusal.specs.declared.RefusedAt.{RefusedAt}
+use Rattle.refusal.specs.declared.Refusal.TheVariants.{TreeLength, Magic, TreeSize, Version, BlockBounds, Token, Name, TooMany, Repeated, NotFound, PropertyForm, OutOfRange, UnknownPhandle, RecordForm, Level, Position, FeatureEnabled, BufferLength, NotAscending, UnitText}
 
--- each refusal's number in document 01's table; 0 is no refusal
+-- each refusal's number in document 01's table
 abbrev pub number_of : Refusal → ℕ
-number_of None = 0
 number_of TreeLength = 1
 number_of Magic = 2
 number_of TreeSize = 3
@@ -40,6 +40,16 @@ answer v = record { number = 0; value = v }
 abbrev pub refuse : {A : Type 0} → A → ℕ → Outcome A
 refuse zeros n = record { number = n; value = zeros }
 
+-- the number of an outcome: 0 is no refusal
+abbrev pub number_in : {A : Type 0} → Result A Refusal → ℕ
+number_in (Ok a) = 0
+number_in (Err e) = number_of e
+
+-- what a call without a place answers, by its outcome: a part of the answer, or zeros
+abbrev pub outcome_of : {A B : Type 0} → (A → B) → B → Result A Refusal → Outcome B
+outcome_of part zeros (Ok a) = answer (part a)
+outcome_of part zeros (Err e) = refuse zeros (number_of e)
+
 -- what is found at a place of a tree: a number of the table, and a byte offset
 pub record Fault : Type 0 where
   pub number : ℕ
@@ -61,3 +71,16 @@ placed v = record { number = 0; place = 0; value = v }
 -- "A refused read returns number, place .. and a record with no features"
 abbrev pub refuse_at : {A : Type 0} → A → Fault → Placed A
 refuse_at zeros f = record { number = f.number; place = f.place; value = zeros }
+
+-- a refusal at a place
+abbrev pub refused_at : Refusal → ℕ → RefusedAt
+refused_at r p = record { refusal = r; place = p }
+
+-- the same by its number
+abbrev pub fault_of_refused : RefusedAt → Fault
+fault_of_refused e = fault (number_of e.refusal) e.place
+
+-- what a call with a place answers, by its outcome: a part of the answer, or zeros
+abbrev pub placed_of : {A B : Type 0} → (A → B) → B → Result A RefusedAt → Placed B
+placed_of part zeros (Ok a) = placed (part a)
+placed_of part zeros (Err e) = refuse_at zeros (fault_of_refused e)
