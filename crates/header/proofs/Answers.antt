@@ -1,8 +1,9 @@
 -- Equal outcomes are equal answers, so that the promise decides its answer. Assumes nothing.
-use mathlib.Core.Path.{◌≡◌}
+use Rattle.std.specs.Prelude.{◌≡◌, Result}
 use Rattle.refusal.proofs.Numbers.{same-placed}
-use Rattle.header.specs.Header.{header_outcome}
-use Rattle.header.specs.declared.Header.{Header}
+use Rattle.refusal.specs.declared.RefusedAt.{RefusedAt}
+use Rattle.header.specs.Header.{no_blocks, header_outcome}
+use Rattle.header.specs.declared.Blocks.{Blocks}
 
-pub same-header : (a b : Header) → header_outcome a ≡ header_outcome b → a ≡ b
-same-header a b e = same-placed (λ r p v. record { refusal = r; place = p; blocks = v }) a.refusal b.refusal a.place b.place a.blocks b.blocks e
+pub same-header : (a b : Result Blocks RefusedAt) → header_outcome a ≡ header_outcome b → a ≡ b
+same-header a b e = same-placed (λ (b : Blocks). b) no_blocks (λ x y e. e) a b e

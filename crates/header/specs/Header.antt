@@ -1,10 +1,10 @@
 -- The header of a flattened tree, version 17 layout (document 01, "The walk": "Header checks, in order, with place").
-use Rattle.std.specs.Prelude.{ℕ, ◌+◌, ◌%◌, Bool, List, [], ◌∷◌, leb, eqb, length}
+use Rattle.std.specs.Prelude.{ℕ, ◌+◌, ◌%◌, Bool, List, [], ◌∷◌, leb, eqb, length, Result}
 use Rattle.cells.specs.Cells.{cell_at}
-use Rattle.refusal.specs.Refusal.{Fault, fault, Placed, placed, refuse_at, number_of}
+use Rattle.refusal.specs.Refusal.{Fault, fault, Placed, placed, refuse_at, placed_of}
 use Rattle.refusal.specs.Checks.{Check, check, first_fault}
 use Rattle.header.specs.declared.Blocks.{Blocks}
-use Rattle.header.specs.declared.Header.{Header}
+use Rattle.refusal.specs.declared.RefusedAt.{RefusedAt}
 
 -- the ten cells of the header
 module _ (tree : List ℕ) where
@@ -91,5 +91,5 @@ unfoldable pub header : List ℕ → Placed Blocks
 header tree = judged (header_checks tree) tree
 
 -- what an answer says: the number of document 01, the place, and the blocks
-abbrev pub header_outcome : Header → Placed Blocks
-header_outcome r = record { number = number_of r.refusal; place = r.place; value = r.blocks }
+abbrev pub header_outcome : Result Blocks RefusedAt → Placed Blocks
+header_outcome r = placed_of (λ (b : Blocks). b) no_blocks r

@@ -3,10 +3,9 @@
 
 ghost use Rattle.std.specs.Prelude.{◌≡◌, ◌<◌, ◌^◌};
 ghost use Rattle.cells.specs.Cells.{cell_at};
-ghost use Rattle.refusal.specs.Refusal.{number_of, fault, refuse_at};
-ghost use Rattle.header.specs.Header.{total_size, no_blocks, block_checks, judged, header, header_outcome};
+ghost use Rattle.header.specs.Header.{total_size, block_checks, judged, header, header_outcome};
 
-use refusal::Refusal;
+use refusal::{Refusal, RefusedAt};
 
 // The bytes of the header.
 pub const HEADER_BYTES: usize = 40;
@@ -19,7 +18,7 @@ const MAGIC: usize = 0xd00dfeed;
 const VERSION: usize = 17;
 
 // Where the structure block and the strings block begin and end, as places in the tree.
-#[derive(Clone, Copy)]
+#[derive(Clone, Copy, Debug, PartialEq, Eq)]
 pub struct Blocks {
     pub start: usize,
     pub end: usize,
@@ -27,29 +26,7 @@ pub struct Blocks {
     pub limit: usize,
 }
 
-#[derive(Clone, Copy)]
-pub struct Header {
-    pub refusal: Refusal,
-    pub place: usize,
-    pub blocks: Blocks,
-}
-
-fn refused(refusal: Refusal, place: usize) -> Header
-    ensures { header_outcome result ≡ refuse_at no_blocks (fault (number_of refusal) place) }
-{
-    let blocks = Blocks {
-        start: 0,
-        end: 0,
-        strings: 0,
-        limit: 0,
-    };
-    Header {
-        refusal,
-        place,
-        blocks,
-    }
-}
-
+// A cell of the header, as a place or a size. By `as`: usize has no From<u32>.
 fn cell(tree: &[u8], at: usize) -> usize
     ensures { (result ≡ cell_at tree.now at) × (result < 2 ^ 32) }
 {
@@ -57,70 +34,50 @@ fn cell(tree: &[u8], at: usize) -> usize
 }
 
 // The blocks of a tree of `total` bytes.
-fn read_blocks(tree: &[u8], total: usize) -> Header
+fn read_blocks(tree: &[u8], total: usize) -> Result<Blocks, RefusedAt>
     requires { total ≡ total_size tree.now }
     ensures { header_outcome result ≡ judged (block_checks tree.now) tree.now }
 {
     let start = cell(tree, 8);
     let end = start + cell(tree, 36);
-    if start < HEADER_BYTES {
-        return refused(Refusal::BlockBounds, 8);
-    }
-    if total < end {
-        return refused(Refusal::BlockBounds, 8);
-    }
-    if start % 4 != 0 {
-        return refused(Refusal::BlockBounds, 8);
-    }
-    if (end - start) % 4 != 0 {
-        return refused(Refusal::BlockBounds, 8);
+    if start < HEADER_BYTES || total < end || start % 4 != 0 || (end - start) % 4 != 0 {
+        return Err(Refusal::BlockBounds.at(8));
     }
     let strings = cell(tree, 12);
     let limit = strings + cell(tree, 32);
-    if strings < HEADER_BYTES {
-        return refused(Refusal::BlockBounds, 12);
+    if strings < HEADER_BYTES || total < limit {
+        return Err(Refusal::BlockBounds.at(12));
     }
-    if total < limit {
-        return refused(Refusal::BlockBounds, 12);
-    }
-    let blocks = Blocks {
+    Ok(Blocks {
         start,
         end,
         strings,
         limit,
-    };
-    Header {
-        refusal: Refusal::None,
-        place: 0,
-        blocks,
-    }
+    })
 }
 
 // The structure block and the strings block of a tree. Refusals, in order: 1, 2, 3, 1, 4, 5.
-pub fn read_header(tree: &[u8]) -> Header
+pub fn read_header(tree: &[u8]) -> Result<Blocks, RefusedAt>
     ensures { header_outcome result ≡ header tree.now }
 {
     if tree.len() < HEADER_BYTES {
-        return refused(Refusal::TreeLength, 0);
+        return Err(Refusal::TreeLength.at(0));
     }
     if cell(tree, 0) != MAGIC {
-        return refused(Refusal::Magic, 0);
+        return Err(Refusal::Magic.at(0));
     }
     let total = cell(tree, 4);
     if LARGEST_TREE < total {
-        return refused(Refusal::TreeSize, 4);
+        return Err(Refusal::TreeSize.at(4));
     }
-    if total < HEADER_BYTES {
-        return refused(Refusal::TreeLength, 4);
-    }
-    if tree.len() < total {
-        return refused(Refusal::TreeLength, 4);
+    if total < HEADER_BYTES || tree.len() < total {
+        return Err(Refusal::TreeLength.at(4));
     }
     if cell(tree, 20) < VERSION {
-        return refused(Refusal::Version, 20);
+        return Err(Refusal::Version.at(20));
     }
     if VERSION < cell(tree, 24) {
-        return refused(Refusal::Version, 24);
+        return Err(Refusal::Version.at(24));
     }
     read_blocks(tree, total)
 }
