@@ -1,5 +1,5 @@
 -- The number of a step is that of the first check of the token there. Assumes nothing.
-use mathlib.Core.Path.{◌≡◌, refl, ap, ◌∙◌}
+use mathlib.Core.Path.{◌≡◌, refl, sym, ap}
 use mathlib.Core.Bool.{Bool, true, false, not, ◌||◌}
 use mathlib.Core.List.{List, [], ◌∷◌}
 use Prim.Native.Nat.{ℕ, ◌+◌}
@@ -10,6 +10,7 @@ use Rattle.refusal.specs.Checks.{check, first_fault, fault_of}
 use Rattle.cells.specs.Cells.{cell_at}
 use Rattle.tokens.specs.declared.Step.{Step}
 use Rattle.tokens.specs.Steps.{padded, step_at, step_number, is_token_kind, token_checks}
+use Rattle.tokens.proofs.Stepping.{step-none, step-begin, step-end-node, step-property, step-nop, step_end, step-unknown}
 use Rattle.tokens.proofs.TokenList.{Is, begins, ends, holds, skips, stops, cut, unknown, none, view}
 
 module _ (s : List ℕ) (stop at : ℕ) where
@@ -35,6 +36,8 @@ module _ (s : List ℕ) (stop at : ℕ) where
           decided true false _ (le-leb (at + 4) stop r) (rw (ne_eqb k 1 n1, ne_eqb k 2 n2, ne_eqb k 3 n3, ne_eqb k 4 n4, ne_eqb k 9 n9)) refl
       go (none r) = decided false _ _ (lt-leb (at + 4) stop r) refl refl
 
-  -- a step is as the definition says, and so is its number
-  pub answers : {r : Step} → r ≡ step_at s stop at → (r ≡ step_at s stop at) × (step_number r ≡ fault_of (token_checks s stop at))
-  answers e = (e, ap step_number e ∙ step-number)
+  pub fault-step : fault_of (token_checks s stop at) ≡ step_number (step_at s stop at)
+  fault-step = sym step-number
+
+-- what a step is, by the bytes there, and its number
+pub ruleset token_steps = (fault-step, step-none, step-begin, step-end-node, step-property, step-nop, step_end, step-unknown)

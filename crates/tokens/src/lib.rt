@@ -16,13 +16,13 @@ const NOP: u32 = 4;
 const END: u32 = 9;
 
 // Document 01: "a place in the tree that moves on token by token".
-#[derive(Clone, Copy)]
+#[derive(Clone, Copy, Debug, PartialEq, Eq)]
 pub struct Cursor {
     pub at: usize,
 }
 
 // A token, with the cursor of what follows it: a begin token's name, or the next token.
-#[derive(Clone, Copy)]
+#[derive(Clone, Copy, Debug, PartialEq, Eq)]
 pub enum Step {
     BeginNode {
         at: usize,
@@ -51,13 +51,8 @@ pub enum Step {
     },
 }
 
-fn size(x: u32) -> usize
-    ensures { (result ≡ x) × (result < 2 ^ 32) }
-{
-    x as usize
-}
-
 // A length rounded up to a multiple of four.
+#[tactic(auto, unfolding(crate::specs::Steps::padded))]
 fn padded(n: usize) -> usize
     requires { n < 2 ^ 63 }
     ensures { result ≡ padded_to n }
@@ -65,6 +60,8 @@ fn padded(n: usize) -> usize
     (n + 3) / 4 * 4
 }
 
+// The property at a place, where its value ends within the block.
+#[tactic(auto, unfolding(crate::specs::Steps::padded, crate::specs::Steps::property_at))]
 fn property_at(s: &[u8], end: usize, at: usize) -> Step
     requires { at + 4 ≤ end }
     ensures { result ≡ property_at s.now end at }
@@ -72,8 +69,9 @@ fn property_at(s: &[u8], end: usize, at: usize) -> Step
     if end - at < 12 {
         return Step::Fault { at };
     }
-    let length = size(cells::cell_at(s, at + 4));
-    let name = size(cells::cell_at(s, at + 8));
+    // by `as`: usize has no From<u32>
+    let length = cells::cell_at(s, at + 4) as usize;
+    let name = cells::cell_at(s, at + 8) as usize;
     let value = at + 12;
     let room = padded(length);
     if end - value < room {
@@ -90,19 +88,16 @@ fn property_at(s: &[u8], end: usize, at: usize) -> Step
 
 impl Cursor {
     // The token at the cursor, in a block that ends at `end`; a fault is 6.
+    #[tactic(auto, using(crate::proofs::StepNumbers::token_steps))]
     pub fn step(self, s: &[u8], end: usize) -> Step
         ensures value { result ≡ step_at s.now end self.at }
         ensures result_value { step_number result ≡ fault_of (token_checks s.now end self.at) }
     {
         let at = self.at;
-        if end <= at {
+        if end <= at || end - at < 4 {
             return Step::Fault { at: end };
         }
-        if end - at < 4 {
-            return Step::Fault { at: end };
-        }
-        let token = cells::cell_at(s, at);
-        match token {
+        match cells::cell_at(s, at) {
             BEGIN_NODE => Step::BeginNode {
                 at,
                 name: Cursor { at: at + 4 },
