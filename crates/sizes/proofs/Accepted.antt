@@ -8,6 +8,7 @@ use native.Mathlib.Omega.{arith}
 use lib.Dec.{leb→le, ltb→lt, eqb→eq}
 use lib.ListN.{length, replicate}
 use lib.Seq.{take-append_seam}
+use Rattle.std.specs.Prelude.{Option, Some, None}
 use Rattle.refusal.specs.Refusal.{Outcome, answer, refuse}
 use Rattle.refusal.specs.Checks.{first_fault}
 use Rattle.refusal.proofs.Checks.{Passes, Numbered, passes, passes-join, passes-both, numbered-both, follows, answered, tests}
@@ -16,48 +17,46 @@ use Rattle.cells.specs.Bytes.{IsByte, Each}
 use Rattle.cells.proofs.CellRows.{length-cells, count-cells, cells-back, bytes_back, are-cells}
 use Rattle.sizes.specs.Sizes.{most_sizes, largest_exponent, no_size, size_only, size_or_none, exponents_in, ascends, place_checks, plain_checks, size_checks, no_sizes, size_table, sizes, page_sizes, segment_sizes}
 use Rattle.sizes.specs.SizeCells.{Ascending, Sized, SizeCells, places_in}
-use Rattle.sizes.specs.declared.Size.{Size}
-use Rattle.sizes.specs.declared.Size.TheVariants.{Exponent, None}
 use Rattle.sizes.specs.declared.SizeTable.{SizeTable}
 use Rattle.sizes.proofs.Rules.{size-read}
 
 -- exponents in front of which a size stands, or none
-abbrev After : Size → List ℕ → Type 0
+abbrev After : Option ℕ → List ℕ → Type 0
 After None es = Ascending es
-After (Exponent e) es = Ascending (e ∷ es)
+After (Some e) es = Ascending (e ∷ es)
 
 -- the checks of places hold exactly where their exponents are within bounds and ascend
-checked-within : (last : Size) (places : List Size) → Passes (place_checks last places) → Each (λ e. e ≤ largest_exponent) (exponents_in places) × After last (exponents_in places)
+checked-within : (last : Option ℕ) (places : List (Option ℕ)) → Passes (place_checks last places) → Each (λ e. e ≤ largest_exponent) (exponents_in places) × After last (exponents_in places)
 unfolding place_checks ascends
 checked-within None [] h = (tt, tt)
-checked-within (Exponent l) [] h = (tt, tt)
+checked-within (Some l) [] h = (tt, tt)
 checked-within last (None ∷ places) h = checked-within last places h
-checked-within None (Exponent e ∷ places) h =
-    let r = checked-within (Exponent e) places h.1.1 in
+checked-within None (Some e ∷ places) h =
+    let r = checked-within (Some e) places h.1.1 in
     ((leb→le e largest_exponent h.0, r.0), r.1)
-checked-within (Exponent l) (Exponent e ∷ places) h =
-    let r = checked-within (Exponent e) places h.1.1 in
+checked-within (Some l) (Some e ∷ places) h =
+    let r = checked-within (Some e) places h.1.1 in
     ((leb→le e largest_exponent h.0, r.0), (ltb→lt l e h.1.0, r.1))
 
-within-checked : (last : Size) (places : List Size) → Each (λ e. e ≤ largest_exponent) (exponents_in places) → After last (exponents_in places) → Passes (place_checks last places)
+within-checked : (last : Option ℕ) (places : List (Option ℕ)) → Each (λ e. e ≤ largest_exponent) (exponents_in places) → After last (exponents_in places) → Passes (place_checks last places)
 unfolding place_checks ascends
 within-checked None [] h a = tt
-within-checked (Exponent l) [] h a = tt
+within-checked (Some l) [] h a = tt
 within-checked None (None ∷ places) h a = within-checked None places h a
-within-checked (Exponent l) (None ∷ places) h a = within-checked (Exponent l) places h a
-within-checked None (Exponent e ∷ places) h a = (omega (arith, tests, h.0), (tt, within-checked (Exponent e) places h.1 a))
-within-checked (Exponent l) (Exponent e ∷ places) h a =
-    (omega (arith, tests, h.0), (omega (arith, tests, a.0), within-checked (Exponent e) places h.1 a.1))
+within-checked (Some l) (None ∷ places) h a = within-checked (Some l) places h a
+within-checked None (Some e ∷ places) h a = (omega (arith, tests, h.0), (tt, within-checked (Some e) places h.1 a))
+within-checked (Some l) (Some e ∷ places) h a =
+    (omega (arith, tests, h.0), (omega (arith, tests, a.0), within-checked (Some e) places h.1 a.1))
 
 -- every fault is a number of the table
-numbered-cells : (last : Size) (places : List Size) → Numbered (place_checks last places)
+numbered-cells : (last : Option ℕ) (places : List (Option ℕ)) → Numbered (place_checks last places)
 unfolding place_checks
 numbered-cells last [] = tt
 numbered-cells last (None ∷ places) = numbered-cells last places
-numbered-cells last (Exponent e ∷ places) = (omega arith, (omega arith, numbered-cells (Exponent e) places))
+numbered-cells last (Some e ∷ places) = (omega arith, (omega arith, numbered-cells (Some e) places))
 
-module _ (rule : ℕ → Size) where
-  abbrev places_of : List ℕ → List Size
+module _ (rule : ℕ → Option ℕ) where
+  abbrev places_of : List ℕ → List (Option ℕ)
   places_of value = map rule (cells_in value)
 
   numbered-sizes : (value : List ℕ) → Numbered (size_checks rule value)
@@ -122,7 +121,7 @@ exponents-only : (cells : List ℕ) → exponents_in (map size_only cells) ≡ c
 exponents-only [] = refl
 exponents-only (c ∷ cs) = rw (exponents-only cs)
 
-pub sizes-plain : (rule : ℕ → Size) (value : List ℕ) → map rule (cells_in value) ≡ map size_only (cells_in value)
+pub sizes-plain : (rule : ℕ → Option ℕ) (value : List ℕ) → map rule (cells_in value) ≡ map size_only (cells_in value)
     → sizes rule value ≡ first_fault (refuse no_sizes) (plain_checks size_only value) (answer (size_table (cells_in value)))
 unfolding sizes size_checks plain_checks
 sizes-plain rule value e =

@@ -9,6 +9,7 @@ use native.Mathlib.Numerals.{add-one}
 use lib.Dec.{T, ltb}
 use lib.ListN.{length, get_or, set, take, drop, replicate}
 use lib.Seq.{drop-cons, drop-length, take-length}
+use Rattle.std.specs.Prelude.{Option, Some, None}
 use Rattle.refusal.specs.Refusal.{Outcome, answer, refuse}
 use Rattle.refusal.specs.Checks.{Check, check, first_fault}
 use Rattle.refusal.proofs.Checks.{holds_on, stops, passes, tests}
@@ -17,26 +18,24 @@ use Rattle.cells.specs.Rows.{padded}
 use Rattle.cells.proofs.Rows.{row-at, padded-take}
 use Rattle.cells.proofs.CellRows.{count-cells}
 use Rattle.sizes.specs.Sizes.{exponents_in, ascends, place_checks, plain_checks, size_checks, no_sizes, size_table, sizes, most_sizes, largest_exponent}
-use Rattle.sizes.specs.declared.Size.{Size}
-use Rattle.sizes.specs.declared.Size.TheVariants.{Exponent, None}
 use Rattle.sizes.specs.declared.SizeTable.{SizeTable}
 
 -- the least exponent that may follow the last size
-abbrev pub above : Size → ℕ
+abbrev pub above : Option ℕ → ℕ
 above None = 0
-above (Exponent e) = e + 1
+above (Some e) = e + 1
 
-not-less : (last : Size) (e : ℕ) → above last ≤ e → T (ascends last e)
+not-less : (last : Option ℕ) (e : ℕ) → above last ≤ e → T (ascends last e)
 unfolding ascends
 not-less None e h = tt
-not-less (Exponent l) e h = omega (arith, tests)
+not-less (Some l) e h = omega (arith, tests)
 
-less : (last : Size) (e : ℕ) → e < above last → T (not (ascends last e))
+less : (last : Option ℕ) (e : ℕ) → e < above last → T (not (ascends last e))
 unfolding ascends
 less None e h = absurd (omega arith)
-less (Exponent l) e h = omega (arith, tests)
+less (Some l) e h = omega (arith, tests)
 
-module _ (rule : ℕ → Size) (value : List ℕ) where
+module _ (rule : ℕ → Option ℕ) (value : List ℕ) where
   abbrev whole : Outcome SizeTable
   whole = answer (size_table (cells_in value))
 
@@ -53,7 +52,7 @@ module _ (rule : ℕ → Size) (value : List ℕ) where
     pub few : n ≤ most_sizes
     pub counted : n ≡ length (cells_in value)
     pub row : exponents ≡ padded most_sizes 0 (take i (cells_in value))
-    pub last : Size
+    pub last : Option ℕ
     pub floor : least ≡ above last
     pub rest : first_fault (refuse no_sizes) (place_checks last (map rule (drop i (cells_in value))) ++ last_check) whole ≡ sizes rule value
     pub none : least ≡ 0 → length (exponents_from 0) ≡ length (exponents_from i)
@@ -76,7 +75,7 @@ module _ (rule : ℕ → Size) (value : List ℕ) where
     some = λ z. absurd (omega arith);
   }
 
-module _ {rule : ℕ → Size} {value : List ℕ} {n : ℕ} {exponents : List ℕ} {least i : ℕ} (g : Read rule value n exponents least i) where
+module _ {rule : ℕ → Option ℕ} {value : List ℕ} {n : ℕ} {exponents : List ℕ} {least i : ℕ} (g : Read rule value n exponents least i) where
   -- after the last cell
   ended : n ≤ i → drop i (cells_in value) ≡ []
   ended h = let e : i ≡ length (cells_in value) = omega (arith, g.within, g.counted) in rw e (drop-length (cells_in value))
@@ -126,7 +125,7 @@ module _ {rule : ℕ → Size} {value : List ℕ} {n : ℕ} {exponents : List �
       some = g.some;
     }
 
-    module _ {size : ℕ} (s : rule x ≡ Exponent size) where
+    module _ {size : ℕ} (s : rule x ≡ Some size) where
       pub read-large : largest_exponent < size → refuse no_sizes 12 ≡ sizes rule value
       unfolding place_checks
       read-large l = sym (stops (refuse no_sizes) 0 0 _ (whole rule value) (omega (arith, tests))) ∙ (rw (here, s) at g.rest)
@@ -144,7 +143,7 @@ module _ {rule : ℕ → Size} {value : List ℕ} {n : ℕ} {exponents : List �
         few = g.few;
         counted = g.counted;
         row = row_next;
-        last = Exponent size;
+        last = Some size;
         floor = refl;
         rest =
             rw (add-one i)

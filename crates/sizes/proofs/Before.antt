@@ -8,6 +8,7 @@ use native.Mathlib.Omega.{arith}
 use lib.Dec.{leb, ltb, eqb}
 use lib.ListN.{length, drop}
 use lib.Seq.{drop-cons, drop-length}
+use Rattle.std.specs.Prelude.{Option, Some, None}
 use Rattle.refusal.specs.Refusal.{Outcome, answer, refuse}
 use Rattle.refusal.specs.Checks.{Check, check, first_fault}
 use Rattle.cells.specs.Cells.{cell_at, cells_in}
@@ -15,8 +16,6 @@ use Rattle.cells.specs.Rows.{each, padded}
 use Rattle.cells.proofs.Rows.{row-at}
 use Rattle.cells.proofs.CellRows.{count-cells}
 use Rattle.sizes.specs.Sizes.{most_sizes, largest_exponent, size_only, ascends, place_checks, plain_checks, no_sizes, size_table, page_sizes}
-use Rattle.sizes.specs.declared.Size.{Size}
-use Rattle.sizes.specs.declared.Size.TheVariants.{Exponent, None}
 use Rattle.sizes.specs.declared.SizeTable.{SizeTable}
 use Rattle.sizes.proofs.Accepted.{sizes-plain}
 
@@ -44,9 +43,9 @@ module _ (value : List ℕ) where
       first_fault (refuse no_sizes) checks_before (answer (record { count = count; exponents = padded most_sizes 0 (each count cell) }))
 
   -- the last size before an index
-  abbrev last_at : ℕ → Size
+  abbrev last_at : ℕ → Option ℕ
   last_at zero = None
-  last_at (suc i) = Exponent (cell i)
+  last_at (suc i) = Some (cell i)
 
   same-order : (i : ℕ) → ascends (last_at i) (cell i) ≡ above_predecessor i
   unfolding ascends

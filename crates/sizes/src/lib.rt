@@ -2,10 +2,8 @@
 // size in its place; one of radix encodings has more than an exponent in it.
 #![tactic(auto)]
 
-ghost use Rattle.std.specs.Prelude.{◌≡◌};
-ghost use Rattle.refusal.specs.Refusal.{number_of, refuse};
-ghost use Rattle.sizes.specs.Sizes.{no_sizes, size_or_none, sizes, page_sizes, segment_sizes, radix_sizes, sizes_outcome};
-ghost use Rattle.sizes.specs.Parts.{rule_of};
+ghost use Rattle.std.specs.Prelude.{◌≡◌, ℕ, ◌^◌, ◌<◌, Option};
+ghost use Rattle.sizes.specs.Sizes.{size_or_none, sizes, page_sizes, segment_sizes, radix_sizes, sizes_outcome};
 
 use refusal::Refusal;
 
@@ -21,13 +19,6 @@ pub const NO_SIZE: u32 = 0xffffffff;
 // A cell of radix encodings has its page exponent below this bit, and the AP encoding from it on.
 pub const AP_BIT: u32 = 0x20000000;
 
-// What stands in a place of a table: a size, by its exponent, or none.
-#[derive(Clone, Copy)]
-pub enum Size {
-    Exponent(u32),
-    None,
-}
-
 // The cells of a table, each in its place, and zeros. Of page sizes each is an exponent; of segment sizes `size_or_none` says what it is;
 // of radix encodings the exponent is what is below `AP_BIT`.
 #[repr(C)]
@@ -37,110 +28,73 @@ pub struct SizeTable {
     pub exponents: [u32; MOST_SIZES],
 }
 
-#[derive(Clone, Copy)]
-pub struct Sizes {
-    pub refusal: Refusal,
-    pub table: SizeTable,
-}
-
-// How the cells of a property read.
-#[derive(Clone, Copy)]
-enum Rule {
-    SizeOnly,
-    SizeOrNone,
-    RadixSize,
-}
-
-// What a cell of segment sizes says.
-pub fn size_or_none(exponent: u32) -> Size
+// What a cell of segment sizes says: the exponent of a size, or that there is none.
+#[tactic(auto, unfolding(crate::specs::Sizes::size_or_none))]
+pub fn size_or_none(exponent: u32) -> Option<u32>
     ensures { result ≡ size_or_none exponent }
 {
     if exponent == NO_SIZE {
-        return Size::None;
+        return None;
     }
-    Size::Exponent(exponent)
+    Some(exponent)
 }
 
-fn size_by(rule: Rule, cell: u32) -> Size
-    ensures { result ≡ rule_of rule cell }
+// The cells of a value, of which `size` says what each is: the exponent of a size, or none. `least` is the least exponent that may follow: 0
+// as long as there is no size.
+fn sizes_by<F: Fn(u32) -> Option<u32>>(size: F, value: &[u8]) -> Result<SizeTable, Refusal>
+    ghost rule: { ℕ → Option ℕ }
+    requires callable { F.IsAlwaysCallable size }
+    requires ruled { (cell : ℕ) (exponent : Option ℕ) → cell < 2 ^ 32 → F.post size cell exponent → exponent ≡ rule cell }
+    ensures { sizes_outcome result ≡ sizes rule value.now }
 {
-    match rule {
-        Rule::SizeOnly => Size::Exponent(cell),
-        Rule::SizeOrNone => size_or_none(cell),
-        Rule::RadixSize => Size::Exponent(cell % AP_BIT),
-    }
-}
-
-fn refused(refusal: Refusal) -> Sizes
-    ensures { sizes_outcome result ≡ refuse no_sizes (number_of refusal) }
-{
-    let table = SizeTable {
-        count: 0,
-        exponents: [0; MOST_SIZES],
-    };
-    Sizes { refusal, table }
-}
-
-// Sizes by a rule. `least` is the least exponent that may follow: 0 as long as there is no size.
-fn sizes_by(rule: Rule, value: &[u8]) -> Sizes
-    ensures { sizes_outcome result ≡ sizes (rule_of rule) value.now }
-{
-    if value.len() == 0 {
-        return refused(Refusal::PropertyForm);
-    }
-    if 0 < value.len() % 4 {
-        return refused(Refusal::PropertyForm);
+    if value.is_empty() || value.len() % 4 != 0 {
+        return Err(Refusal::PropertyForm);
     }
     let count = value.len() / 4;
     if MOST_SIZES < count {
-        return refused(Refusal::TooMany);
+        return Err(Refusal::TooMany);
     }
-    let mut exponents: [u32; MOST_SIZES] = [0; MOST_SIZES];
-    let mut least: u32 = 0;
-    let mut i = 0;
-    while i < count {
+    let mut exponents = [0; MOST_SIZES];
+    let mut least = 0;
+    for i in 0..count {
         let cell = cells::cell_at(value, 4 * i);
-        match size_by(rule, cell) {
-            Size::Exponent(exponent) => {
-                if LARGEST_EXPONENT < exponent {
-                    return refused(Refusal::OutOfRange);
-                }
-                if exponent < least {
-                    return refused(Refusal::NotAscending);
-                }
-                least = exponent + 1;
+        if let Some(exponent) = size(cell) {
+            if LARGEST_EXPONENT < exponent {
+                return Err(Refusal::OutOfRange);
             }
-            Size::None => {}
+            if exponent < least {
+                return Err(Refusal::NotAscending);
+            }
+            least = exponent + 1;
         }
         exponents[i] = cell;
-        i += 1;
     }
     if least == 0 {
-        return refused(Refusal::PropertyForm);
+        return Err(Refusal::PropertyForm);
     }
-    let count = count as u32;
-    let table = SizeTable { count, exponents };
-    let refusal = Refusal::None;
-    Sizes { refusal, table }
+    Ok(SizeTable {
+        count: count as u32,
+        exponents,
+    })
 }
 
 // The value of `ibm,processor-page-sizes`. Refusals: 11, 8, then cell by cell 12, 19.
-pub fn page_sizes(value: &[u8]) -> Sizes
+pub fn page_sizes(value: &[u8]) -> Result<SizeTable, Refusal>
     ensures { sizes_outcome result ≡ page_sizes value.now }
 {
-    sizes_by(Rule::SizeOnly, value)
+    sizes_by(Some, value)
 }
 
 // The value of `ibm,processor-segment-sizes`. Refusals: 11, 8, then cell by cell 12, 19; 11 where no cell is a size.
-pub fn segment_sizes(value: &[u8]) -> Sizes
+pub fn segment_sizes(value: &[u8]) -> Result<SizeTable, Refusal>
     ensures { sizes_outcome result ≡ segment_sizes value.now }
 {
-    sizes_by(Rule::SizeOrNone, value)
+    sizes_by(size_or_none, value)
 }
 
 // The cells of a value of `ibm,processor-radix-AP-encodings`, whole. Refusals: 11, 8, then cell by cell 12, 19, of the exponent in it.
-pub fn radix_sizes(value: &[u8]) -> Sizes
+pub fn radix_sizes(value: &[u8]) -> Result<SizeTable, Refusal>
     ensures { sizes_outcome result ≡ radix_sizes value.now }
 {
-    sizes_by(Rule::RadixSize, value)
+    sizes_by(|cell| Some(cell % AP_BIT), value)
 }
