@@ -70,12 +70,8 @@ bit-ones (suc k) (suc i) =
     both (yes h) = lt-ltb i k h ∙ sym (lt-ltb (suc i) (suc k) (omega arith))
     both (no h) = le-ltb i k (omega arith) ∙ sym (le-ltb (suc i) (suc k) (omega arith))
 
--- a word of the positions below n, by the code's three cases
+-- a word of the positions below n, by the code's two cases
 module _ (n w : ℕ) where
-  pub word_none : n ≤ 64 * w → 0 ≡ word_below n w
-  unfolding word_below
-  word_none h = let e : min (n - 64 * w) 64 ≡ 0 = omega arith in rw e
-
   pub word-full : 64 ≤ n - 64 * w → 18446744073709551615 ≡ word_below n w
   unfolding word_below
   word-full h = let e : min (n - 64 * w) 64 ≡ 64 = omega arith in rw e
@@ -83,9 +79,6 @@ module _ (n w : ℕ) where
   pub word-part : n - 64 * w < 64 → 1 * 2 ^ (n - 64 * w) % 2 ^ 64 - 1 ≡ word_below n w
   unfolding word_below
   word-part h = let e : min (n - 64 * w) 64 ≡ n - 64 * w = omega arith in rw (shift_one (n - 64 * w) h, e)
-
-pub shift-positive : (s : ℕ) → s < 64 → 1 ≤ 1 * 2 ^ s % 2 ^ 64
-shift-positive s h = rw (shift_one s h) (pow_pos s)
 
 -- the positions below n
 pub first-all : (n : ℕ) (t : List ℕ) (w : ℕ) → FilledTo (word_below n) t w → set_words ≤ w → t ≡ first_positions n

@@ -1,7 +1,5 @@
 -- Tests of the positions below a bound.
-use Rattle.std.specs.Prelude.{ℕ, zero, suc, ◌+◌, Bool, true, false, ◌&&◌, ◌||◌, cond}
-use Rattle.positions.specs.declared.Position.{Position}
-use Rattle.positions.specs.declared.Position.TheVariants.{Nowhere, At}
+use Rattle.std.specs.Prelude.{ℕ, zero, suc, ◌+◌, Bool, true, false, ◌&&◌, ◌||◌, cond, Option, None, Some}
 
 -- every position below n passes a test
 unfoldable pub every : ℕ → (ℕ → Bool) → Bool
@@ -23,16 +21,16 @@ count zero p = 0
 count (suc n) p = count n p + one_if (p n)
 
 -- a position, counted from one position earlier
-abbrev pub from_before : Position → Position
-from_before Nowhere = Nowhere
-from_before (At i) = At (suc i)
+abbrev pub from_before : Option ℕ → Option ℕ
+from_before None = None
+from_before (Some i) = Some (suc i)
 
--- the first position below n that passes a test; nowhere where none does
-unfoldable pub first_that : ℕ → (ℕ → Bool) → Position
-first_that zero p = Nowhere
-first_that (suc n) p = cond (p zero) (At zero) (from_before (first_that n (λ i. p (suc i))))
+-- the first position below n that passes a test, if one does
+unfoldable pub first_that : ℕ → (ℕ → Bool) → Option ℕ
+first_that zero p = None
+first_that (suc n) p = cond (p zero) (Some zero) (from_before (first_that n (λ i. p (suc i))))
 
 -- there is one
-abbrev pub is_somewhere : Position → Bool
-is_somewhere Nowhere = false
-is_somewhere (At i) = true
+abbrev pub is_somewhere : Option ℕ → Bool
+is_somewhere None = false
+is_somewhere (Some i) = true

@@ -27,23 +27,12 @@ pub struct Set {
     pub words: [u64; WORDS],
 }
 
-// What a search among positions answers: a position, or that there is none.
-#[derive(Clone, Copy)]
-pub enum Position {
-    Nowhere,
-    At(usize),
-}
-
 // Whether a bit of a word is set, the lowest being bit 0.
 #[tactic(auto, using(crate::proofs::BitLaws::bit_test))]
 pub fn bit_set(word: u64, i: u32) -> bool
     ensures { result ≡ bit word i }
 {
-    if i < WORD_BITS {
-        (word >> i) % 2 != 0
-    } else {
-        false
-    }
+    i < WORD_BITS && (word >> i) % 2 != 0
 }
 
 // The set with no members.
@@ -58,36 +47,29 @@ pub fn member(s: Set, i: usize) -> bool
     ensures { result ≡ has s.words i }
 {
     let w = i / 64;
-    if WORDS <= w {
-        return false;
-    }
-    (s.words[w] >> (i % 64)) % 2 != 0
+    w < WORDS && (s.words[w] >> (i % 64)) % 2 != 0
 }
 
 // A set with a position; the same set where the position is past the last word.
-pub fn insert(s: Set, i: usize) -> Set
+pub fn insert(mut s: Set, i: usize) -> Set
     ensures { result.words ≡ with_member s.words i }
 {
     let w = i / 64;
-    if WORDS <= w {
-        return s;
+    if w < WORDS {
+        s.words[w] |= 1u64 << (i % 64);
     }
-    let mut t = s;
-    t.words[w] = s.words[w] | (1u64 << (i % 64));
-    t
+    s
 }
 
 // A set without a position.
-pub fn remove(s: Set, i: usize) -> Set
+pub fn remove(mut s: Set, i: usize) -> Set
     ensures { result.words ≡ without_member s.words i }
 {
     let w = i / 64;
-    if WORDS <= w {
-        return s;
+    if w < WORDS {
+        s.words[w] &= !(1u64 << (i % 64));
     }
-    let mut t = s;
-    t.words[w] = s.words[w] & !(1u64 << (i % 64));
-    t
+    s
 }
 
 // Word `w` of the set of the positions below `n`: all ones, none, or those of the lowest bits.
@@ -95,14 +77,12 @@ fn word_below(n: usize, w: usize) -> u64
     requires { w < set_words }
     ensures { result ≡ word_below n w }
 {
-    let start = 64 * w;
-    if n <= start {
-        return 0;
+    let left = n.saturating_sub(64 * w);
+    if left < 64 {
+        (1u64 << left) - 1
+    } else {
+        u64::MAX
     }
-    if 64 <= n - start {
-        return 18446744073709551615;
-    }
-    (1u64 << (n - start)) - 1
 }
 
 // The positions below a bound: one step a word.
@@ -110,10 +90,8 @@ pub fn below(n: usize) -> Set
     ensures { result.words ≡ first_positions n }
 {
     let mut t = empty();
-    let mut w: usize = 0;
-    while w < WORDS {
-        t.words[w] = word_below(n, w);
-        w += 1;
+    for (w, word) in t.words.iter_mut().enumerate() {
+        *word = word_below(n, w);
     }
     t
 }
@@ -123,10 +101,8 @@ pub fn members(s: Set) -> u32
     ensures { result ≡ member_count s.words }
 {
     let mut n: u32 = 0;
-    let mut w: usize = 0;
-    while w < WORDS {
-        n += u64::count_ones(s.words[w]);
-        w += 1;
+    for word in s.words {
+        n += word.count_ones();
     }
     n
 }

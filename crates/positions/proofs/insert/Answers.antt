@@ -3,8 +3,8 @@ use Rattle.positions.proofs.SetCodeLaws.{word-list, with-past, with-bit}
 use borrow.Author.Rules.{rules}
 use Rattle.positions.proofs.insert.Goals as goal
 
-pub returns-then-w-ge-WORDS : goal.returns-then-w-ge-WORDS
-returns-then-w-ge-WORDS c = with-past _ _ (word-list _ (search rules) (λ v. search rules)) c.if-w-ge-WORDS.true
+pub returns-else-w-lt-WORDS : goal.returns-else-w-lt-WORDS
+returns-else-w-lt-WORDS c = with-past _ _ (word-list _ (search rules) (λ v. search rules)) c.if-w-lt-WORDS.false
 
-pub returns : goal.returns
-returns c = with-bit _ _ (word-list _ (search rules) (λ v. search rules)) (search rules)
+pub returns-then-w-lt-WORDS : goal.returns-then-w-lt-WORDS
+returns-then-w-lt-WORDS c = with-bit _ _ (word-list _ (search rules) (λ v. search rules)) (search rules)
