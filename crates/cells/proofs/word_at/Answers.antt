@@ -1,12 +1,18 @@
 -- `cells::word_at` meets its contract. Assumes nothing.
-use Rattle.cells.specs.Cells.{word_at}
-use Rattle.cells.proofs.Cells.{no_word}
-use mathlib.Core.Path.{sym, ◌∙◌}
+use Rattle.std.proofs.Common.{◌≡◌, ◌+◌, arith, sym, ◌∙◌}
+use Rattle.cells.specs.Cells.{cell_at, word_at}
+use Rattle.cells.proofs.Cells.{no_word, cell-rest, next-rest}
 use Rattle.cells.proofs.word_at.Goals as goal
 
-pub returns-then-s-at : goal.returns-then-s-at
-returns-then-s-at c = sym (no_word _ _ c.if-s-at.true)
+pub returns-in_default : goal.returns-in_default
+returns-in_default c = sym (no_word _ _ (omega (arith, c.in_default.ensures.lookup)))
 
 pub returns : goal.returns
 unfolding word_at
-returns c = c.joined_cells.ensures ∙ rw (c.cell_at-2.ensures, c.cell_at.ensures)
+returns c =
+    let s = c.args.s.now in
+    let at = c.args.at in
+    let rest = c.in-Some.ensures.lookup.0.2 in
+    let high : c.from-high.result ≡ cell_at s at = c.from-high.ensures ∙ c.cell_at.ensures ∙ cell-rest s at rest in
+    let low : c.from-low.result ≡ cell_at s (at + 4) = c.from-low.ensures ∙ c.cell_at-2.ensures ∙ next-rest s at rest in
+    omega arith
