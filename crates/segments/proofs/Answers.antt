@@ -1,8 +1,11 @@
 -- Equal outcomes are equal answers, so that each promise decides its answer. Assumes nothing.
 use mathlib.Core.Path.{◌≡◌}
-use Rattle.refusal.proofs.Numbers.{same_answer}
-use Rattle.segments.specs.Segments.{segments_outcome}
-use Rattle.segments.specs.declared.SegmentPages.{SegmentPages}
+use mathlib.Core.List.{[]}
+use Rattle.std.specs.Prelude.{Result}
+use Rattle.refusal.specs.declared.Refusal.{Refusal}
+use Rattle.refusal.proofs.Numbers.{same-outcome}
+use Rattle.segments.specs.Segments.{table_of, segments_outcome}
+use Rattle.segments.specs.declared.SegmentTable.{SegmentTable}
 
-pub same-segments : (a b : SegmentPages) → segments_outcome a ≡ segments_outcome b → a ≡ b
-same-segments a b e = same_answer (λ r v. record { refusal = r; table = v }) a.refusal b.refusal a.table b.table e
+pub same-segments : (a b : Result SegmentTable Refusal) → segments_outcome a ≡ segments_outcome b → a ≡ b
+same-segments = same-outcome (λ t. t) (table_of []) (λ a b e. e)

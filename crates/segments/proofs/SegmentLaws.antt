@@ -6,7 +6,7 @@ use native.Mathlib.Omega.{arith}
 use native.Mathlib.Numerals.{add-one}
 use borrow.Author.Tests.{lt-ltb, le-ltb}
 use lib.Dec.{T, leb, ltb, leb→le, ltb→lt}
-use lib.ListN.{length, set, length-append}
+use lib.ListN.{length, set, replicate, length-append}
 use Rattle.refusal.specs.Refusal.{Outcome, answer, refuse}
 use Rattle.refusal.specs.Checks.{check, first_fault, fault_of}
 use Rattle.refusal.proofs.Checks.{Numbered, stops, holds_on, stops-with, next-decides, no-fault-passes, fault-some, fault-none, tests}
@@ -92,17 +92,16 @@ pub record PagesRead (v : List ℕ) (at : ℕ) (d : Descriptor) (j : ℕ) : Type
   pub within : j ≤ count_at v at
   pub holds : d ≡ with_pages v at (padded most_pages no_page (each j (page_at v at)))
 
-module _ {v : List ℕ} {at : ℕ} {d : Descriptor} where
+module _ {v : List ℕ} {at : ℕ} where
   pub no-page-read : {b e n : ℕ}
-      → d ≡ no_descriptor
       → b ≡ base_at v at
       → e ≡ encoding_at v at
       → n ≡ count_at v at
-      → PagesRead v at (record { base = b; encoding = e; count = n; pages = d.pages }) 0
-  unfolding with_pages no_descriptor
-  no-page-read none p q r = record { within = omega arith; holds = rw (none, p, q, r) }
+      → PagesRead v at (record { base = b; encoding = e; count = n; pages = replicate most_pages no_page }) 0
+  unfolding with_pages
+  no-page-read p q r = record { within = omega arith; holds = rw (p, q, r) }
 
-  module _ {j : ℕ} (g : PagesRead v at d j) where
+  module _ {d : Descriptor} {j : ℕ} (g : PagesRead v at d j) where
     pub page-read : {x y : ℕ}
         → j < count_at v at
         → count_at v at ≤ most_pages
@@ -178,35 +177,35 @@ outcome_from v read i at =
     (answer (table_of (read ++ descriptors_from (suc most_descriptors - i) v at)))
 
 -- i descriptors are read, and those from `at` on decide
-pub record DescriptorsRead (v : List ℕ) (table : SegmentTable) (at i : ℕ) : Type 0 where
+pub record DescriptorsRead (v : List ℕ) (descriptors : List Descriptor) (at i : ℕ) : Type 0 where
   pub read : List Descriptor
   pub counted : length read ≡ i
   pub few : i ≤ most_descriptors
   pub within : at ≤ length v
-  pub holds : table ≡ record { count = 0; descriptors = padded most_descriptors no_descriptor read }
+  pub holds : descriptors ≡ padded most_descriptors no_descriptor read
   pub same : outcome_from v read i at ≡ segment_pages v
 
 pub no_bytes : (v : List ℕ) → length v ≡ 0 → refuse (table_of []) 11 ≡ segment_pages v
 unfolding segment_pages segment_checks
 no_bytes v h = sym (stops (refuse (table_of [])) 0 0 _ _ (omega (arith, tests)))
 
-pub none_read : {v : List ℕ} {table : SegmentTable} → 0 < length v → table ≡ table_of [] → DescriptorsRead v table 0 0
-unfolding segment_pages segment_checks table_of
-none_read {v} {table} h e = record {
+pub none_read : {v : List ℕ} → 0 < length v → DescriptorsRead v (replicate most_descriptors no_descriptor) 0 0
+unfolding segment_pages segment_checks
+none_read {v} h = record {
   read = [];
   counted = refl;
   few = omega arith;
   within = omega arith;
-  holds = e;
+  holds = refl;
   same = sym (holds_on (refuse (table_of [])) _ _ _ (omega (arith, tests)));
 }
 
-module _ {v : List ℕ} {table : SegmentTable} {at i : ℕ} (g : DescriptorsRead v table at i) where
+module _ {v : List ℕ} {descriptors : List Descriptor} {at i : ℕ} (g : DescriptorsRead v descriptors at i) where
   one_less : suc most_descriptors - i ≡ suc (suc most_descriptors - (i + 1))
   one_less = omega arith
 
   -- the value ends
-  pub all_read : length v ≤ at → answer (record { count = i; descriptors = table.descriptors }) ≡ segment_pages v
+  pub all_read : length v ≤ at → answer (record { count = i; descriptors = descriptors }) ≡ segment_pages v
   unfolding table_of checks_from descriptors_from first_fault
   all_read h =
       rw (g.holds, ← g.counted)
@@ -231,27 +230,21 @@ module _ {v : List ℕ} {table : SegmentTable} {at i : ℕ} (g : DescriptorsRead
         (sym (fault-some (refuse (table_of [])) (descriptor_checks v i at) _ _ (λ k. z (e ∙ k)))
         ∙ (rw first-checks at g.same))
 
-    pub descriptor-read : {d : Descriptor}
+    pub descriptor-read : {d : Descriptor} {next : ℕ}
         → GoodDescriptor v i at
         → d ≡ descriptor_at v at
-        → DescriptorsRead v
-        (record { count = table.count; descriptors = set table.descriptors i d })
-        (at + 12 + 8 * d.count)
-        (i + 1)
-    unfolding descriptor_at
-    descriptor-read {d} good e =
-        let n : d.count ≡ count_at v at = read_count v at e in
+        → next ≡ next_at v at
+        → DescriptorsRead v (set descriptors i d) next (i + 1)
+    descriptor-read {d} {next} good e n =
         record {
           read = g.read ++ d ∷ [];
           counted = length-append g.read (d ∷ []) ∙ ap (λ (m : ℕ). m + 1) g.counted;
           few = omega arith;
           within = omega arith;
           holds =
-              rw (g.holds, ← g.counted)
-              (ap (λ (l : List Descriptor). record { count = 0; descriptors = l })
-              (padded-more most_descriptors no_descriptor g.read d (omega arith)));
+              rw (g.holds, ← g.counted) (padded-more most_descriptors no_descriptor g.read d (omega arith));
           same =
-              rw (e, append_assoc g.read)
+              rw (e, n, append_assoc g.read)
               (sym (fault-none (refuse (table_of [])) (descriptor_checks v i at) _ _ (numbered-descriptor v i at) good.faultless)
               ∙ (rw (first-checks, first-descriptor) at g.same));
         }

@@ -1,14 +1,14 @@
 -- `ibm,segment-page-sizes` (document 01, "CPU properties and unit text").
-use Rattle.std.specs.Prelude.{ℕ, zero, suc, ◌+◌, ◌*◌, true, false, List, [], ◌∷◌, ◌++◌, leb, ltb, length, replicate}
+use Rattle.std.specs.Prelude.{ℕ, zero, suc, ◌+◌, ◌*◌, true, false, List, [], ◌∷◌, ◌++◌, leb, ltb, length, replicate, Result}
 use Rattle.cells.specs.Cells.{cell_at}
-use Rattle.refusal.specs.Refusal.{Outcome, number_of, answer, refuse}
+use Rattle.refusal.specs.declared.Refusal.{Refusal}
+use Rattle.refusal.specs.Refusal.{Outcome, answer, refuse, outcome_of}
 use Rattle.refusal.specs.Checks.{Check, check, first_fault}
 use Rattle.cells.specs.Rows.{each, padded}
 use Rattle.sizes.specs.Sizes.{largest_exponent}
 use Rattle.segments.specs.declared.Page.{Page}
 use Rattle.segments.specs.declared.Descriptor.{Descriptor}
 use Rattle.segments.specs.declared.SegmentTable.{SegmentTable}
-use Rattle.segments.specs.declared.SegmentPages.{SegmentPages}
 
 -- "1 to 8 descriptors"
 abbrev pub most_descriptors : ℕ
@@ -96,5 +96,5 @@ segment_pages value =
     first_fault (refuse (table_of [])) (segment_checks value) (answer (table_of (descriptors_from (suc most_descriptors) value 0)))
 
 -- what an answer says: the number of document 01, and the table
-abbrev pub segments_outcome : SegmentPages → Outcome SegmentTable
-segments_outcome r = record { number = number_of r.refusal; value = r.table }
+abbrev pub segments_outcome : Result SegmentTable Refusal → Outcome SegmentTable
+segments_outcome = outcome_of (λ t. t) (table_of [])

@@ -1,8 +1,8 @@
 // `ibm,segment-page-sizes`: for each base page size its SLB encoding, and the page sizes that a segment of it may have.
 #![tactic(auto)]
 
-ghost use Rattle.std.specs.Prelude.{◌≡◌, [], ◌+◌, ◌*◌, ◌≤◌, length};
-ghost use Rattle.refusal.specs.Refusal.{number_of, refuse};
+ghost use Rattle.std.specs.Prelude.{◌≡◌, ◌+◌, ◌*◌, ◌≤◌, length};
+ghost use Rattle.refusal.specs.Refusal.{number_in};
 ghost use Rattle.refusal.specs.Checks.{fault_of};
 ghost use Rattle.segments.specs.Segments.{
   count_at,
@@ -10,8 +10,6 @@ ghost use Rattle.segments.specs.Segments.{
   exponent_checks,
   descriptor_checks,
   descriptor_at,
-  no_descriptor,
-  table_of,
   segment_pages,
   segments_outcome,
 };
@@ -50,91 +48,61 @@ pub struct SegmentTable {
     pub descriptors: [Descriptor; 8],
 }
 
-#[derive(Clone, Copy)]
-pub struct SegmentPages {
-    pub refusal: Refusal,
-    pub table: SegmentTable,
-}
+// What stands in a place with no page, and in one with no descriptor.
+const NO_PAGE: Page = Page {
+    exponent: 0,
+    encoding: 0,
+};
 
-fn no_descriptor() -> Descriptor
-    ensures { result ≡ no_descriptor }
-{
-    let page = Page {
-        exponent: 0,
-        encoding: 0,
-    };
-    Descriptor {
-        base: 0,
-        encoding: 0,
-        count: 0,
-        pages: [page; 8],
-    }
-}
+const NO_DESCRIPTOR: Descriptor = Descriptor {
+    base: 0,
+    encoding: 0,
+    count: 0,
+    pages: [NO_PAGE; 8],
+};
 
-fn no_segments() -> SegmentTable
-    ensures { result ≡ table_of [] }
-{
-    let descriptor = no_descriptor();
-    SegmentTable {
-        count: 0,
-        descriptors: [descriptor; 8],
-    }
-}
-
-fn refused(refusal: Refusal) -> SegmentPages
-    ensures { segments_outcome result ≡ refuse (table_of []) (number_of refusal) }
-{
-    let table = no_segments();
-    SegmentPages { refusal, table }
-}
-
-// The refusal of a descriptor's exponents: the base's and those of its pages.
-fn exponents_refusal(value: &[u8], at: usize, count: usize) -> Refusal
+// Checks a descriptor's exponents: the base's and those of its pages.
+fn check_exponents(value: &[u8], at: usize, count: usize) -> Result<(), Refusal>
     requires { at + 12 + 8 * count ≤ length value.now }
-    ensures { number_of result ≡ fault_of (exponent_checks value.now at count) }
+    ensures { number_in result ≡ fault_of (exponent_checks value.now at count) }
 {
     let base = cells::cell_at(value, at);
     if LARGEST_EXPONENT < base {
-        return Refusal::OutOfRange;
+        return Err(Refusal::OutOfRange);
     }
-    let mut j = 0;
-    while j < count {
+    for j in 0..count {
         let exponent = cells::cell_at(value, at + 12 + 8 * j);
-        if LARGEST_EXPONENT < exponent {
-            return Refusal::OutOfRange;
+        if LARGEST_EXPONENT < exponent || exponent < base {
+            return Err(Refusal::OutOfRange);
         }
-        if exponent < base {
-            return Refusal::OutOfRange;
-        }
-        j += 1;
     }
-    Refusal::None
+    Ok(())
 }
 
-// The refusal of the descriptor of index `i`, which begins at `at`.
-fn descriptor_refusal(value: &[u8], i: usize, at: usize) -> Refusal
+// Checks the descriptor of index `i`, which begins at `at`.
+fn check_descriptor(value: &[u8], i: usize, at: usize) -> Result<(), Refusal>
     requires { at ≤ length value.now }
-    ensures { number_of result ≡ fault_of (descriptor_checks value.now i at) }
+    ensures { number_in result ≡ fault_of (descriptor_checks value.now i at) }
 {
     if MOST_DESCRIPTORS <= i {
-        return Refusal::TooMany;
+        return Err(Refusal::TooMany);
     }
     let left = value.len() - at;
     if left < 12 {
-        return Refusal::PropertyForm;
+        return Err(Refusal::PropertyForm);
     }
     let count = cells::cell_at(value, at + 8);
     if count == 0 {
-        return Refusal::OutOfRange;
+        return Err(Refusal::OutOfRange);
     }
     if MOST_PAGES < count {
-        return Refusal::TooMany;
+        return Err(Refusal::TooMany);
     }
     let pages = count as usize;
     if left - 12 < 8 * pages {
-        return Refusal::PropertyForm;
+        return Err(Refusal::PropertyForm);
     }
-    exponents_refusal(value, at, pages)
+    check_exponents(value, at, pages)
 }
 
 // The descriptor that begins at `at`.
@@ -142,46 +110,40 @@ fn descriptor_at(value: &[u8], at: usize) -> Descriptor
     requires { (count_at value.now at ≤ 8) × (next_at value.now at ≤ length value.now) }
     ensures { result ≡ descriptor_at value.now at }
 {
-    let count = cells::cell_at(value, at + 8);
-    let mut descriptor = no_descriptor();
-    descriptor.base = cells::cell_at(value, at);
-    descriptor.encoding = cells::cell_at(value, at + 4);
-    descriptor.count = count;
-    let mut j = 0;
-    while j < count as usize {
-        let page = Page {
+    let mut descriptor = Descriptor {
+        base: cells::cell_at(value, at),
+        encoding: cells::cell_at(value, at + 4),
+        count: cells::cell_at(value, at + 8),
+        pages: [NO_PAGE; 8],
+    };
+    for j in 0..descriptor.count as usize {
+        descriptor.pages[j] = Page {
             exponent: cells::cell_at(value, at + 12 + 8 * j),
             encoding: cells::cell_at(value, at + 16 + 8 * j),
         };
-        descriptor.pages[j] = page;
-        j += 1;
     }
     descriptor
 }
 
 // The value of `ibm,segment-page-sizes`. Refusals: 11 for no bytes, then descriptor by descriptor.
-pub fn segment_page_sizes(value: &[u8]) -> SegmentPages
+pub fn segment_page_sizes(value: &[u8]) -> Result<SegmentTable, Refusal>
     ensures { segments_outcome result ≡ segment_pages value.now }
 {
-    if value.len() == 0 {
-        return refused(Refusal::PropertyForm);
+    if value.is_empty() {
+        return Err(Refusal::PropertyForm);
     }
-    let mut table = no_segments();
+    let mut descriptors = [NO_DESCRIPTOR; 8];
     let mut at = 0;
     let mut i = 0;
     while at < value.len() {
-        let refusal = descriptor_refusal(value, i, at);
-        if refusal::number(refusal) != 0 {
-            return refused(refusal);
-        }
+        check_descriptor(value, i, at)?;
         let descriptor = descriptor_at(value, at);
-        table.descriptors[i] = descriptor;
-        at = at + 12 + 8 * descriptor.count as usize;
+        at += 12 + 8 * descriptor.count as usize;
+        descriptors[i] = descriptor;
         i += 1;
     }
-    table.count = i as u32;
-    SegmentPages {
-        refusal: Refusal::None,
-        table,
-    }
+    Ok(SegmentTable {
+        count: i as u32,
+        descriptors,
+    })
 }

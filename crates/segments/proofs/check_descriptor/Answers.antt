@@ -1,10 +1,10 @@
--- `segments::descriptor_refusal` meets its contract: each return is the check that stops there. Assumes nothing.
+-- `segments::check_descriptor` meets its contract: each return is the check that stops there. Assumes nothing.
 use native.Mathlib.Omega.{arith}
 use mathlib.Core.Path.{◌∙◌}
 use Rattle.refusal.proofs.Checks.{stops-with, tests}
 use Rattle.segments.specs.Segments.{descriptor_checks}
 use Rattle.segments.proofs.SegmentLaws.{exponents-decide}
-use Rattle.segments.proofs.descriptor_refusal.Goals as goal
+use Rattle.segments.proofs.check_descriptor.Goals as goal
 
 pub returns-then-i-ge-MOST_DESCRIPTORS : goal.returns-then-i-ge-MOST_DESCRIPTORS
 unfolding descriptor_checks
@@ -29,5 +29,5 @@ returns-then-left-pages c = stops-with 4 _ (omega (arith, tests))
 pub returns : goal.returns
 returns c =
     let e = c.cell_at-count.ensures in
-    c.exponents_refusal.ensures
+    c.check_exponents.ensures
     ∙ exponents-decide _ _ _ _ e (omega arith) (omega arith) (omega arith) (omega arith) (omega arith)
