@@ -5,6 +5,7 @@ use mathlib.Core.Bool.{Bool, true, false}
 use mathlib.Core.List.{List, [], ◌∷◌}
 use native.Mathlib.Omega.{arith}
 use lib.ListN.{get_or}
+use Rattle.std.specs.Prelude.{Option, None, Some}
 use Rattle.positions.specs.Bits.{not_zero, bit}
 use Rattle.positions.specs.Below.{one_if}
 use Rattle.positions.proofs.BitLaws.{bit-zero, bit-suc, bit-none}
@@ -12,10 +13,8 @@ use Rattle.record.specs.Cells.{bit_of, held, when_given, cell, given_in, number_
 use Rattle.record.specs.declared.Feature.{Feature}
 use Rattle.record.specs.declared.Property.{Property}
 use Rattle.record.specs.declared.Property.TheVariants.{Isa, UsablePrivilege, HvSupport, OsSupport, HfscrBitNr, FscrBitNr, HwcapBitNr, Phandle, Dependencies}
-use Rattle.record.specs.declared.Cell.{Cell}
-use Rattle.record.specs.declared.Cell.TheVariants.{Absent, Given}
 
-pub cell-is : (f : Feature) {p q : Property} {x : Cell} → x ≡ when_given (bit f.given (bit_of q)) (held f q) → p ≡ q → x ≡ cell f p
+pub cell-is : (f : Feature) {p q : Property} {x : Option ℕ} → x ≡ when_given (bit f.given (bit_of q)) (held f q) → p ≡ q → x ≡ cell f p
 unfolding cell
 cell-is f e h = e ∙ ap (cell f) (sym h)
 
@@ -34,12 +33,12 @@ bit-listed [] i = bit-none i
 bit-listed (b ∷ bs) zero = bit-first b (word_of_bits bs)
 bit-listed (b ∷ bs) (suc i) = bit-next b (word_of_bits bs) i ∙ bit-listed bs i
 
-given-again : (c : Cell) {b : Bool} → b ≡ given_in c → when_given b (number_in c) ≡ c
-given-again Absent e = ap (λ (b : Bool). when_given b 0) e
-given-again (Given n) e = ap (λ (b : Bool). when_given b n) e
+given-again : (c : Option ℕ) {b : Bool} → b ≡ given_in c → when_given b (number_in c) ≡ c
+given-again None e = ap (λ (b : Bool). when_given b 0) e
+given-again (Some n) e = ap (λ (b : Bool). when_given b n) e
 
 -- a feature has the cells that it is made of
-module _ (at : ℕ) (cells : Property → Cell) where
+module _ (at : ℕ) (cells : Property → Option ℕ) where
   pub cell-with : (p : Property) → cell (feature_with at cells) p ≡ cells p
   unfolding cell bit_of held feature_with
   cell-with Isa = given-again _ (bit-listed _ 0)

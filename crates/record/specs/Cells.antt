@@ -1,12 +1,10 @@
 -- The one view of a feature's cells: "Absent and zero differ" (document 01, "The feature record").
-use Rattle.std.specs.Prelude.{ℕ, ◌+◌, ◌*◌, Bool, true, false, List, [], ◌∷◌, map}
+use Rattle.std.specs.Prelude.{ℕ, ◌+◌, ◌*◌, Bool, true, false, List, [], ◌∷◌, map, Option, None, Some}
 use Rattle.positions.specs.Bits.{bit}
 use Rattle.positions.specs.Below.{one_if}
 use Rattle.record.specs.declared.Feature.{Feature}
 use Rattle.record.specs.declared.Property.{Property}
 use Rattle.record.specs.declared.Property.TheVariants.{Isa, UsablePrivilege, HvSupport, OsSupport, HfscrBitNr, FscrBitNr, HwcapBitNr, Phandle, Dependencies}
-use Rattle.record.specs.declared.Cell.{Cell}
-use Rattle.record.specs.declared.Cell.TheVariants.{Absent, Given}
 
 -- the bit of a property in the word `given`
 unfoldable pub bit_of : Property → ℕ
@@ -32,28 +30,28 @@ held f HwcapBitNr = f.hwcap_bit_nr
 held f Phandle = f.phandle
 held f Dependencies = f.dependencies
 
-abbrev pub when_given : Bool → ℕ → Cell
-when_given true n = Given n
-when_given false n = Absent
+abbrev pub when_given : Bool → ℕ → Option ℕ
+when_given true n = Some n
+when_given false n = None
 
 -- "its cells as read and which properties were given"
-unfoldable pub cell : Feature → Property → Cell
+unfoldable pub cell : Feature → Property → Option ℕ
 cell f p = when_given (bit f.given (bit_of p)) (held f p)
 
 -- bit 0 of a cell, where it is given: "Only bit 0 (HFSCR, FSCR) counts"
-abbrev pub low_bit : Cell → Bool
-low_bit Absent = false
-low_bit (Given n) = bit n 0
+abbrev pub low_bit : Option ℕ → Bool
+low_bit None = false
+low_bit (Some n) = bit n 0
 
 -- whether a cell is given
-abbrev pub given_in : Cell → Bool
-given_in Absent = false
-given_in (Given n) = true
+abbrev pub given_in : Option ℕ → Bool
+given_in None = false
+given_in (Some n) = true
 
 -- the number of a cell; zero where it is absent
-abbrev pub number_in : Cell → ℕ
-number_in Absent = 0
-number_in (Given n) = n
+abbrev pub number_in : Option ℕ → ℕ
+number_in None = 0
+number_in (Some n) = n
 
 -- how many dependencies a feature has
 unfoldable pub dependency_count : Feature → ℕ
@@ -70,11 +68,11 @@ word_of_bits [] = 0
 word_of_bits (b ∷ bs) = one_if b + 2 * word_of_bits bs
 
 -- "which properties were given": the bit of each is set where its cell is given
-abbrev pub given_word : (Property → Cell) → ℕ
+abbrev pub given_word : (Property → Option ℕ) → ℕ
 given_word cells = word_of_bits (map (λ (p : Property). given_in (cells p)) all_properties)
 
 -- the feature at an offset whose cells are these, zero where one is absent
-unfoldable pub feature_with : ℕ → (Property → Cell) → Feature
+unfoldable pub feature_with : ℕ → (Property → Option ℕ) → Feature
 feature_with at cells = record {
   offset = at;
   given = given_word cells;

@@ -48,7 +48,7 @@ pub struct Record {
 }
 
 // The properties of a feature. Each has its bit in the word `given`, in this order from bit 0 on.
-#[derive(Clone, Copy)]
+#[derive(Clone, Copy, Debug, PartialEq, Eq)]
 pub enum Property {
     Isa,
     UsablePrivilege,
@@ -61,24 +61,15 @@ pub enum Property {
     Dependencies,
 }
 
-// What a feature has of a property: nothing, or a number. Absent and zero differ.
-#[derive(Clone, Copy)]
-pub enum Cell {
-    Absent,
-    Given(u32),
-}
-
-fn when_given(given: u32, bit: u32, value: u32) -> Cell
+// The value, where its bit of the word `given` is set.
+fn when_given(given: u32, bit: u32, value: u32) -> Option<u32>
     ensures { result ≡ when_given (bit_of given bit) value }
 {
-    if !positions::bit_set(given as u64, bit) {
-        return Cell::Absent;
-    }
-    Cell::Given(value)
+    positions::bit_set(u64::from(given), bit).then_some(value)
 }
 
-// What a feature has of a property.
-pub fn cell_of(f: Feature, p: Property) -> Cell
+// What a feature has of a property: a number, where it is given. Absent and zero differ.
+pub fn cell_of(f: Feature, p: Property) -> Option<u32>
     ensures { result ≡ cell_of f p }
 {
     match p {
@@ -95,21 +86,16 @@ pub fn cell_of(f: Feature, p: Property) -> Cell
 }
 
 // How many dependencies a feature has.
+#[tactic(auto, unfolding(crate::specs::Cells::dependency_count))]
 pub fn dependency_count(f: Feature) -> u32
     ensures { result ≡ dependency_count f }
 {
-    match cell_of(f, Property::Dependencies) {
-        Cell::Absent => 0,
-        Cell::Given(n) => n,
-    }
+    cell_of(f, Property::Dependencies).unwrap_or(0)
 }
 
 // Bit 0 of a cell; not set where the cell is absent.
-pub fn low_bit(c: Cell) -> bool
+pub fn low_bit(c: Option<u32>) -> bool
     ensures { result ≡ low_bit c }
 {
-    match c {
-        Cell::Absent => false,
-        Cell::Given(n) => positions::bit_set(n as u64, 0),
-    }
+    c.is_some_and(|n| positions::bit_set(u64::from(n), 0))
 }
