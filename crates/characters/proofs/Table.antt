@@ -1,15 +1,17 @@
--- The table's rule: antt computes the 256 entries of the rule once and compares them with the table (`entries/Proof.antt`). Assumes nothing.
+-- The table's rule: antt computes the 256 entries of the rule once and compares them with the table (`entries/Answers.antt`). Assumes nothing.
 use mathlib.Core.Path.{◌≡◌, refl, sym, ap, subst, ◌∙◌}
 use mathlib.Core.Bool.{Bool, true, false, cond}
 use mathlib.Core.List.{List, [], ◌∷◌}
 use Prim.Native.Nat.{ℕ, zero, suc, ◌+◌, ◌*◌, ◌<◌, ◌≤◌, ◌/◌, ◌%◌}
 use native.Mathlib.Nat.{add-zero, zero-add, le_of_suc-le-suc, not-suc-le-zero}
 use native.Mathlib.Omega.{arith}
-use lib.Dec.{eqb}
+use lib.Dec.{eqb, ltb}
+use borrow.Author.Tests.{lt-ltb}
 use lib.ListN.{length, get_or}
-use Rattle.characters.specs.declared.HexValue.{HexValue}
-use Rattle.characters.specs.declared.HexValue.TheVariants.{Digit, None}
-use Rattle.characters.specs.Characters.{lower_digits, upper_digits, digit_value, or_else, hex_value, hex_digit, hex_entry, one_if, entry_of, is_node_character, is_property_character, run, character_table, is_node_entry, is_property_entry}
+use Rattle.std.proofs.Common.{Option, Some, None}
+use Rattle.std.specs.Bool.{then_some}
+use Rattle.std.specs.Option.{option_or}
+use Rattle.characters.specs.Characters.{lower_digits, upper_digits, digit_value, hex_value, hex_digit, hex_entry, one_if, entry_of, is_node_character, is_property_character, run, character_table, is_node_entry, is_property_entry}
 
 run_at : (f : ℕ → ℕ) (n i k : ℕ) → k < n → get_or (run f n i) k 0 ≡ f (i + k)
 unfolding run
@@ -26,20 +28,20 @@ pub agree : (f g : ℕ → ℕ) (n : ℕ) → run f n 0 ≡ run g n 0 → (k : �
 agree f g n e k h = sym (in-run f n k h) ∙ ap (λ (l : List ℕ). get_or l k 0) e ∙ in-run g n k h
 
 -- a value is below 16
-abbrev Small : HexValue → Type 0
-Small (Digit v) = v < 16
+abbrev Small : Option ℕ → Type 0
+Small (Some v) = v < 16
 Small None = Unit {0}
 
 values-small : (v : ℕ) (ds : List ℕ) (b : ℕ) → v + length ds ≤ 16 → Small (digit_value v ds b)
 values-small v [] b h = tt
 values-small v (d ∷ ds) b h = go (eqb b d) (values-small (suc v) ds b (omega arith))
   where
-    go : (e : Bool) → Small (digit_value (suc v) ds b) → Small (cond e (Digit v) (digit_value (suc v) ds b))
+    go : (e : Bool) → Small (digit_value (suc v) ds b) → Small (cond e (Some v) (digit_value (suc v) ds b))
     go true s = omega arith
     go false s = s
 
-small-else : (x y : HexValue) → Small x → Small y → Small (or_else x y)
-small-else (Digit v) y s t = s
+small-else : (x y : Option ℕ) → Small x → Small y → Small (option_or x y)
+small-else (Some v) y s t = s
 small-else None y s t = t
 
 small : (b : ℕ) → Small (hex_value b)
@@ -47,24 +49,24 @@ unfolding hex_value
 small b =
     small-else (digit_value 0 lower_digits b) (digit_value 0 upper_digits b) (values-small 0 lower_digits b (omega arith)) (values-small 0 upper_digits b (omega arith))
 
-pub hex-below : (b : ℕ) {v : ℕ} → hex_value b ≡ Digit v → v < 16
+pub hex-below : (b : ℕ) {v : ℕ} → hex_value b ≡ Some v → v < 16
 hex-below b e = subst Small e (small b)
 
 -- a value by the low bits of its entry
-entry-most : (x : HexValue) → Small x → hex_entry x ≤ 16
-entry-most (Digit v) s = omega (arith, s)
+entry-most : (x : Option ℕ) → Small x → hex_entry x ≤ 16
+entry-most (Some v) s = omega (arith, s)
 entry-most None s = omega arith
 
-entry-digit : (x : HexValue) {v : ℕ} → hex_entry x ≡ v → v < 16 → Digit v ≡ x
-entry-digit (Digit u) e h = ap (λ (k : ℕ). Digit k) (sym e)
+entry-digit : (x : Option ℕ) {v : ℕ} → hex_entry x ≡ v → v < 16 → Some v ≡ x
+entry-digit (Some u) e h = ap (λ (k : ℕ). Some k) (sym e)
 entry-digit None e h = absurd (omega arith)
 
-entry-none : (x : HexValue) → Small x → 16 ≤ hex_entry x → None ≡ x
-entry-none (Digit u) s h = absurd (omega (arith, s))
-entry-none None s h = refl
+told : (x : Option ℕ) → Small x → then_some (ltb (hex_entry x) 16) (hex_entry x) ≡ x
+told (Some v) s = rw (lt-ltb v 16 s)
+told None s = refl
 
 -- the digit of a number has the value of its last four bits
-pub hex-of-digit : (n : ℕ) → hex_value (hex_digit n) ≡ Digit (n % 16)
+pub hex-of-digit : (n : ℕ) → hex_value (hex_digit n) ≡ Some (n % 16)
 unfolding run hex_value hex_digit
 hex-of-digit n =
     let e = agree (λ (k : ℕ). hex_entry (hex_value (get_or lower_digits k 0))) (λ (k : ℕ). k) 16 refl (n % 16) (omega arith) in
@@ -87,12 +89,11 @@ module _ (b : ℕ) where
   entry-hex = (parts (hex_entry (hex_value b)) (is_node_character b) (is_property_character b) (entry-most (hex_value b) (small b))).0
 
   -- the value that an entry says
-  module _ {x : ℕ} (e : x ≡ entry_of b) where
-    pub digit-told : x % 32 < 16 → Digit (x % 32) ≡ hex_value b
-    digit-told h = entry-digit (hex_value b) (sym (ap (λ (k : ℕ). k % 32) e ∙ entry-hex)) h
-
-    pub none_told : 16 ≤ x % 32 → None ≡ hex_value b
-    none_told h = let l = ap (λ (k : ℕ). k % 32) e ∙ entry-hex in entry-none (hex_value b) (small b) (omega arith)
+  pub entry-value : {x : ℕ} → x ≡ entry_of b → then_some (ltb (x % 32) 16) (x % 32) ≡ hex_value b
+  entry-value e =
+      ap (λ (k : ℕ). then_some (ltb (k % 32) 16) (k % 32)) e
+      ∙ ap (λ (k : ℕ). then_some (ltb k 16) k) entry-hex
+      ∙ told (hex_value b) (small b)
 
   entry-node : is_node_entry (entry_of b) ≡ is_node_character b
   unfolding entry_of

@@ -1,10 +1,9 @@
 -- The characters of names (document 01, "The walk") and of hexadecimal numbers ("CPU properties and unit text").
-use Rattle.std.specs.Prelude.{ℕ, zero, suc, ◌+◌, ◌*◌, ◌/◌, ◌%◌, Bool, true, false, ◌||◌, cond, List, [], ◌∷◌, ◌++◌, eqb, get_or}
+use Rattle.std.specs.Prelude.{ℕ, zero, suc, ◌+◌, ◌*◌, ◌/◌, ◌%◌, Bool, true, false, ◌||◌, cond, Option, Some, None, List, [], ◌∷◌, ◌++◌, eqb, get_or}
+use Rattle.std.specs.Option.{option_or}
 use Prim.Native.String.{String}
 use Prim.Native.String as text
 use Prim.Native.Char.{code}
-use Rattle.characters.specs.declared.HexValue.{HexValue}
-use Rattle.characters.specs.declared.HexValue.TheVariants.{Digit, None}
 
 -- the bytes of an ASCII text
 abbrev pub bytes : String → List ℕ
@@ -35,26 +34,21 @@ abbrev pub upper_digits : List ℕ
 upper_digits = bytes "0123456789ABCDEF"
 
 -- the value of a character that stands in a list of digits: its place, counted from `v`
-abbrev pub digit_value : ℕ → List ℕ → ℕ → HexValue
+abbrev pub digit_value : ℕ → List ℕ → ℕ → Option ℕ
 digit_value v [] b = None
-digit_value v (d ∷ ds) b = cond (eqb b d) (Digit v) (digit_value (suc v) ds b)
-
--- the first of two values, or the second where there is no first
-abbrev pub or_else : HexValue → HexValue → HexValue
-or_else (Digit v) x = Digit v
-or_else None x = x
+digit_value v (d ∷ ds) b = cond (eqb b d) (Some v) (digit_value (suc v) ds b)
 
 -- "hex, either case": a digit's value is its place in either of these; no other character has one
-unfoldable pub hex_value : ℕ → HexValue
-hex_value b = or_else (digit_value 0 lower_digits b) (digit_value 0 upper_digits b)
+unfoldable pub hex_value : ℕ → Option ℕ
+hex_value b = option_or (digit_value 0 lower_digits b) (digit_value 0 upper_digits b)
 
 -- "written lower-case": the hex digit of a number's last four bits
 unfoldable pub hex_digit : ℕ → ℕ
 hex_digit n = get_or lower_digits (n % 16) 0
 
 -- the low five bits of a table's entry: a hex digit's value, 16 for any other character
-abbrev pub hex_entry : HexValue → ℕ
-hex_entry (Digit v) = v
+abbrev pub hex_entry : Option ℕ → ℕ
+hex_entry (Some v) = v
 hex_entry None = 16
 
 abbrev pub one_if : Bool → ℕ

@@ -4,13 +4,6 @@
 ghost use Rattle.std.specs.Prelude.{◌≡◌};
 ghost use Rattle.characters.specs.Characters.{entry_of, character_table, is_node_entry, is_property_entry, hex_value, hex_digit};
 
-// What a character is as a hex digit: a value below 16, or none.
-#[derive(Clone, Copy)]
-pub enum HexValue {
-    Digit(u8),
-    None,
-}
-
 // Document 01: "one constant table of 256 entries, one for each byte". An entry is the hex value (16: no
 // hex digit), and 32 for a node name's character, and 64 for a property name's.
 const TABLE: [u8; 256] = [
@@ -117,6 +110,8 @@ const TABLE: [u8; 256] = [
     16, 16, 16, 16, 16, 16, 16, 16, 16,
 ];
 
+const LOWER_DIGITS: [u8; 16] = *b"0123456789abcdef";
+
 // All entries of the table, to be laid out once for a run of characters.
 pub fn entries() -> [u8; 256]
     ensures { result ≡ character_table }
@@ -127,8 +122,7 @@ pub fn entries() -> [u8; 256]
 fn entry(b: u8) -> u8
     ensures { result ≡ entry_of b }
 {
-    let table = entries();
-    table[b as usize]
+    entries()[usize::from(b)]
 }
 
 // Whether a node name may have the character of an entry, `@` apart.
@@ -146,24 +140,16 @@ pub fn is_property_entry(entry: u8) -> bool
 }
 
 // The value of a hex digit of either case; none for any other character.
-pub fn hex_value(b: u8) -> HexValue
+pub fn hex_value(b: u8) -> Option<u8>
     ensures { result ≡ hex_value b }
 {
     let value = entry(b) % 32;
-    if value < 16 {
-        return HexValue::Digit(value);
-    }
-    HexValue::None
+    (value < 16).then_some(value)
 }
 
 // The lower-case hex digit of a number's last four bits.
 pub fn hex_digit(number: u64) -> u8
     ensures { result ≡ hex_digit number }
 {
-    let value = number % 16;
-    if value < 10 {
-        (48 + value) as u8
-    } else {
-        (87 + value) as u8
-    }
+    LOWER_DIGITS[(number % 16) as usize]
 }

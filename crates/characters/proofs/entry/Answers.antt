@@ -3,4 +3,4 @@ use Rattle.characters.proofs.Table.{found}
 use Rattle.characters.proofs.entry.Goals as goal
 
 pub returns : goal.returns
-returns c = found c.ranges.b.fits c.entries-table.ensures
+returns c = rw c.from.ensures (found c.ranges.b.fits c.entries.ensures)
