@@ -3,7 +3,7 @@
 #![tactic(auto)]
 
 ghost use Rattle.std.specs.Prelude.{◌≡◌, ℕ, ◌^◌, ◌<◌, Option};
-ghost use Rattle.sizes.specs.Sizes.{size_or_none, sizes, page_sizes, segment_sizes, radix_sizes, sizes_outcome};
+ghost use Rattle.sizes.specs.Sizes.{no_sizes, size_or_none, sizes, page_sizes, segment_sizes, radix_sizes, sizes_outcome};
 
 use refusal::Refusal;
 
@@ -26,6 +26,19 @@ pub const AP_BIT: u32 = 0x20000000;
 pub struct SizeTable {
     pub count: u32,
     pub exponents: [u32; MOST_SIZES],
+}
+
+// No sizes, as they stand beside a refusal.
+impl Default for SizeTable {
+    ghost is_default = { λ table. table ≡ no_sizes };
+
+    #[tactic(auto, unfolding(crate::specs::Sizes::no_sizes))]
+    fn default() -> SizeTable {
+        SizeTable {
+            count: 0,
+            exponents: [0; MOST_SIZES],
+        }
+    }
 }
 
 // What a cell of segment sizes says: the exponent of a size, or that there is none.
