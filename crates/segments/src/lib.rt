@@ -1,7 +1,7 @@
 // `ibm,segment-page-sizes`: for each base page size its SLB encoding, and the page sizes that a segment of it may have.
 #![tactic(auto)]
 
-ghost use Rattle.std.specs.Prelude.{◌≡◌, ◌+◌, ◌*◌, ◌≤◌, length};
+ghost use Rattle.std.specs.Prelude.{◌≡◌, [], ◌+◌, ◌*◌, ◌≤◌, length};
 ghost use Rattle.refusal.specs.Refusal.{number_in};
 ghost use Rattle.refusal.specs.Checks.{fault_of};
 ghost use Rattle.segments.specs.Segments.{
@@ -10,6 +10,7 @@ ghost use Rattle.segments.specs.Segments.{
   exponent_checks,
   descriptor_checks,
   descriptor_at,
+  table_of,
   segment_pages,
   segments_outcome,
 };
@@ -60,6 +61,18 @@ const NO_DESCRIPTOR: Descriptor = Descriptor {
     count: 0,
     pages: [NO_PAGE; 8],
 };
+
+// No descriptors, as they stand beside a refusal.
+impl Default for SegmentTable {
+    ghost is_default = { λ table. table ≡ table_of [] };
+
+    fn default() -> SegmentTable {
+        SegmentTable {
+            count: 0,
+            descriptors: [NO_DESCRIPTOR; 8],
+        }
+    }
+}
 
 // Checks a descriptor's exponents: the base's and those of its pages.
 fn check_exponents(value: &[u8], at: usize, count: usize) -> Result<(), Refusal>
