@@ -1,39 +1,32 @@
 -- The search for the first position at which a phandle stands. Assumes nothing.
-use mathlib.Core.Path.{◌≡◌}
+use mathlib.Core.Path.{◌≡◌, sym, ap, ◌∙◌}
 use mathlib.Core.Bool.{Bool, true, false}
 use mathlib.Core.List.{List}
-use Prim.Native.Nat.{ℕ, ◌+◌, ◌<◌, ◌≤◌}
+use Prim.Native.Nat.{ℕ, ◌<◌, ◌≤◌}
 use native.Mathlib.Omega.{arith}
-use borrow.Author.Count.{below_none, below_more}
-use borrow.Author.Tests.{eq-eqb, ne_eqb}
-use lib.ListN.{get_or}
-use Rattle.positions.specs.declared.Position.TheVariants.{Nowhere, At}
+use lib.ListN.{length, take, get_or}
+use lib.Seq.{get_or-take, length-take-le}
+use Rattle.std.specs.Prelude.{Option, None, Some}
+use Rattle.std.specs.List.{AllWithin, HoldsAt}
+use Rattle.std.specs.Option.{MatchOption}
 use Rattle.positions.specs.Below.{first_that}
 use Rattle.positions.proofs.FirstLaws.{first-is}
-use Rattle.feature.specs.Phandles.{is_at}
 
--- the search for the first position that passes a test: none before this one does
-module _ (test : ℕ → Bool) where
-  pub record Sought (i : ℕ) : Type 0 where
-    pub before : (k : ℕ) → k < i → test k ≡ false
+-- what the library's search finds among the first elements of a list is the first position that passes
+module _ {A : Type 0} (test : A → Bool) (d : A) (xs : List A) {n : ℕ} (h : n ≤ length xs) where
+  abbrev passes : ℕ → Bool
+  passes i = test (get_or xs i d)
 
-  pub seek-begins : Sought 0
-  seek-begins = record { before = below_none (λ (k : ℕ). test k ≡ false) }
+  abbrev Finds : Option ℕ → Type 0
+  Finds r =
+      MatchOption r (AllWithin (λ x. test x ≡ false) (take n xs) 0 (length (take n xs)))
+      (λ i. (i < length (take n xs)) × HoldsAt (λ x. test x ≡ true) (take n xs) i × AllWithin (λ x. test x ≡ false) (take n xs) 0 i)
 
-  pub seek-more : {i : ℕ} → Sought i → test i ≡ false → Sought (i + 1)
-  seek-more {i} s e = record { before = below_more (λ (k : ℕ). test k ≡ false) i s.before e }
+  among : (i : ℕ) → i < n → passes i ≡ test (get_or (take n xs) i d)
+  among i l = ap test (sym (get_or-take n xs i d l))
 
-  pub seek_found : {n i : ℕ} → Sought i → i < n → test i ≡ true → At i ≡ first_that n test
-  seek_found {n} s h e = first-is n test (h, e, s.before)
-
-  pub seek-none : {n i : ℕ} → Sought i → n ≤ i → Nowhere ≡ first_that n test
-  seek-none {n} s h = first-is n test (λ k l. s.before k (omega arith))
-
--- the test, as the code makes it
-pub number_is : (numbers : List ℕ) (phandle i : ℕ) → get_or numbers i 0 ≡ phandle → is_at numbers phandle i ≡ true
-unfolding is_at
-number_is numbers phandle i e = eq-eqb (get_or numbers i 0) phandle e
-
-pub number-other : (numbers : List ℕ) (phandle i : ℕ) → (get_or numbers i 0 ≡ phandle → ⊥) → is_at numbers phandle i ≡ false
-unfolding is_at
-number-other numbers phandle i e = ne_eqb (get_or numbers i 0) phandle e
+  pub finds-first : (r : Option ℕ) → Finds r → r ≡ first_that n passes
+  finds-first None f = first-is n passes (λ i l. among i l ∙ f i d (omega arith) (omega (arith, length-take-le n xs h)))
+  finds-first (Some r) f =
+      let l : r < n = omega (arith, f.0, length-take-le n xs h) in
+      first-is n passes (l, among r l ∙ f.1 d, λ i k. among i (omega arith) ∙ f.2 i d (omega arith) k)

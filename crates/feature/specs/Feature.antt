@@ -1,13 +1,17 @@
 -- A feature by the cells of its properties: the first refusal among them, in document 01's order, and the feature where there is none.
-use Rattle.std.specs.Prelude.{ℕ, zero, suc, List, [], ◌∷◌, map}
-use Rattle.refusal.specs.Refusal.{number_of}
+use Rattle.std.specs.Prelude.{ℕ, zero, suc, List, [], ◌∷◌, map, Option, None, Result, Ok, Err}
+use Rattle.refusal.specs.declared.Refusal.{Refusal}
+use Rattle.refusal.specs.Refusal.{Outcome, answer, refuse, number_in, outcome_of}
 use Rattle.record.specs.declared.Feature.{Feature}
 use Rattle.record.specs.declared.Property.{Property}
 use Rattle.record.specs.declared.Property.TheVariants.{Isa, UsablePrivilege, HvSupport, OsSupport, HfscrBitNr, FscrBitNr, HwcapBitNr, Phandle, Dependencies}
-use Rattle.record.specs.declared.Cell.{Cell}
-use Rattle.record.specs.Cells.{when_given, all_properties, feature_with}
-use Rattle.feature.specs.declared.CellRead.{CellRead}
+use Rattle.record.specs.Record.{no_feature}
+use Rattle.record.specs.Cells.{all_properties, feature_with}
 use Rattle.feature.specs.declared.FeatureCells.{FeatureCells}
+
+-- a property of one cell: refused, not given, or its number
+abbrev pub CellRead : Type 0
+CellRead = Result (Option ℕ) Refusal
 
 -- what was read of a property
 abbrev pub read_of : FeatureCells → Property → CellRead
@@ -21,11 +25,12 @@ read_of c HwcapBitNr = c.bits.hwcap_bit_nr
 read_of c Phandle = c.phandle
 read_of c Dependencies = c.dependencies
 
--- its cell: "Absent and zero differ"
-abbrev pub cell_from : CellRead → Cell
-cell_from r = when_given r.given r.number
+-- its cell: "Absent and zero differ"; a refused property has none
+abbrev pub cell_from : CellRead → Option ℕ
+cell_from (Ok cell) = cell
+cell_from (Err refusal) = None
 
-abbrev pub cells_from : FeatureCells → Property → Cell
+abbrev pub cells_from : FeatureCells → Property → Option ℕ
 cells_from c p = cell_from (read_of c p)
 
 -- the first of two numbers that is a refusal, and of some
@@ -39,7 +44,7 @@ first_among (n ∷ ns) = first_of n (first_among ns)
 
 -- the numbers of the properties' refusals, "in this property order"; 0 where there is none
 abbrev pub cell_numbers : FeatureCells → List ℕ
-cell_numbers c = map (λ (p : Property). number_of (read_of c p).refusal) all_properties
+cell_numbers c = map (λ (p : Property). number_in (read_of c p)) all_properties
 
 -- the number of the first refusal
 abbrev pub refusal_of : FeatureCells → ℕ
@@ -48,3 +53,16 @@ refusal_of c = first_among (cell_numbers c)
 -- the feature at an offset
 abbrev pub feature_from : ℕ → FeatureCells → Feature
 feature_from at c = feature_with at (cells_from c)
+
+-- the refusal of this number, or the feature where there is none
+abbrev pub feature_or : ℕ → Feature → Outcome Feature
+feature_or zero f = answer f
+feature_or (suc n) f = refuse no_feature (suc n)
+
+-- the first refusal of the properties, or the feature
+abbrev pub feature_read : ℕ → FeatureCells → Outcome Feature
+feature_read at c = feature_or (refusal_of c) (feature_from at c)
+
+-- what an answer says
+abbrev pub feature_outcome : Result Feature Refusal → Outcome Feature
+feature_outcome r = outcome_of (λ (f : Feature). f) no_feature r
