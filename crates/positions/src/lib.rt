@@ -42,6 +42,15 @@ pub fn empty() -> Set
     Set { words: [0; WORDS] }
 }
 
+// The set with no members, as it stands beside a refusal.
+impl Default for Set {
+    ghost is_default = { λ set. set.words ≡ set_of no_members };
+
+    fn default() -> Set {
+        empty()
+    }
+}
+
 // Whether a position is a member: none is past the last word.
 pub fn member(s: Set, i: usize) -> bool
     ensures { result ≡ has s.words i }
