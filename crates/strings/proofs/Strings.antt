@@ -1,16 +1,20 @@
 -- Laws of strings and of equal byte runs. Assumes nothing.
 use mathlib.Core.Path.{◌≡◌, refl, sym, ap, ap₂, ◌∙◌}
-use mathlib.Core.Bool.{Bool, true, false}
+use mathlib.Core.Bool.{Bool, true, false, cond, ◌&&◌}
 use mathlib.Core.List.{List, [], ◌∷◌}
 use Prim.Native.Nat.{ℕ, suc, zero, ◌+◌, ◌-◌, ◌<◌, ◌≤◌, min}
-use native.Mathlib.Nat.{add-zero}
 use native.Mathlib.Omega.{arith}
 use native.Mathlib.Numerals.{add-one}
 use borrow.Author.Tests.{eq-eqb, ne_eqb, eqb-true}
 use lib.Dec.{eqb}
+use lib.Pointwise.{pointwise}
 use lib.ListN.{get_or, length, take, drop, drop_of_length-le, length-take, length-drop}
-use lib.Seq.{drop-cons, take-nil, take-take, get_or-take, get_or-drop}
-use Rattle.strings.specs.declared.Ending.TheVariants.{At, Nowhere}
+use lib.Seq.{drop-cons, take-nil, take_all, take-take, get_or-take, get_or-drop}
+use native.Mathlib.Decide.{dec_lt}
+use Rattle.std.proofs.Common.{Option, Some, None}
+use Rattle.std.proofs.lemmas.Iterator.Adapters.{position_from-zero}
+use Rattle.std.specs.List.{slice_range, position, position_from}
+use Rattle.std.specs.Option.{option_map}
 use Rattle.strings.specs.Strings.{Text, ended, unended, onto, text_of, text_at, ending_of, same_bytes}
 
 -- a string in a block, byte by byte
@@ -37,22 +41,45 @@ module _ (s : List ℕ) (end i : ℕ) where
   unfolding text_at text_of
   text-more h z = rw (cons-at h, ne_eqb (get_or s i 0) 0 z, text_of)
 
-  -- where it ends
-  pub no_text : min (length s) end ≤ i → ending_of i (text_at s i end) ≡ Nowhere
-  unfolding ending_of
-  no_text h = rw (text-none h)
+-- it ends at the first zero byte of its block
+abbrev pub zero_byte : ℕ → Bool
+zero_byte b = eqb b 0
 
-  pub text-ends : i < min (length s) end → get_or s i 0 ≡ 0 → ending_of i (text_at s i end) ≡ At i
-  unfolding ending_of
-  text-ends h z = rw (text-empty h z) (rw (add-zero i))
+ends-first : (from i : ℕ) (bs : List ℕ) → ending_of (from + i) (text_of bs) ≡ option_map (λ (n : ℕ). from + n) (position_from zero_byte i bs)
+unfolding ending_of text_of
+ends-first from i [] = refl
+ends-first from i (b ∷ bs) = go (eqb b 0) (text_of bs) (ends-first from (i + 1) bs)
+  where
+    go : (q : Bool) (t : Text) → ending_of (from + (i + 1)) t ≡ option_map (λ (n : ℕ). from + n) (position_from zero_byte (i + 1) bs)
+        → ending_of (from + i) (elim q as (λ _. Text) [ true ↦ ended [] | false ↦ onto b t ])
+        ≡ option_map (λ (n : ℕ). from + n) (cond q (Some i) (position_from zero_byte (i + 1) bs))
+    go true t e = ap Some (omega arith)
+    go false (ended cs) e = ap Some (omega arith) ∙ e
+    go false unended e = e
 
-  pub text-goes-on : i < min (length s) end → (get_or s i 0 ≡ 0 → ⊥) → ending_of i (text_at s i end) ≡ ending_of (i + 1) (text_at s (i + 1) end)
+module _ (s : List ℕ) (from end : ℕ) where
+  -- no block begins at its end, or behind it
+  pub no_text : min end (length s) < from → None ≡ ending_of from (text_at s from end)
   unfolding ending_of
-  text-goes-on h z = rw (text-more h z) (go (text_at s (i + 1) end))
+  no_text h = rw (text-none s end from (omega arith))
+
+  text-block : from ≤ length s → text_at s from end ≡ text_of (slice_range s from (min end (length s)))
+  unfolding text_at
+  text-block h = ap text_of (go (dec_lt (length s) end))
     where
-      go : (t : Text) → ending_of i (onto (get_or s i 0) t) ≡ ending_of (i + 1) t
-      go (ended cs) = ap At (omega arith)
-      go unended = refl
+      go : Dec (length s < end) → take (end - from) (drop from s) ≡ slice_range s from (min end (length s))
+      go (yes l) =
+          let e : min end (length s) ≡ length s = omega arith in
+          rw (e, take_all (end - from) (drop from s) (omega (arith, length-drop from s)), take_all (length s - from) (drop from s) (omega (arith, length-drop from s)))
+      go (no l) = let e : min end (length s) ≡ end = omega arith in rw e
+
+  pub text-ends : {stop : ℕ} {block : List ℕ} {place : Option ℕ} → stop ≡ min end (length s) → from ≤ stop → block ≡ slice_range s from stop
+      → place ≡ position zero_byte block → option_map (λ (n : ℕ). from + n) place ≡ ending_of from (text_at s from end)
+  text-ends {stop} {block} {place} m h b p =
+      let z : from + 0 ≡ from = omega arith in
+      ap (option_map (λ (n : ℕ). from + n)) (p ∙ position_from-zero zero_byte block)
+      ∙ sym (ends-first from 0 block)
+      ∙ rw (z, b, m, text-block (omega arith))
 
 -- a string ends before its block does, and before the bytes do
 shorter : (bs cs : List ℕ) → text_of bs ≡ ended cs → length cs < length bs
@@ -120,6 +147,17 @@ same_true (x ∷ xs) (y ∷ ys) e = go (eqb x y) refl (same_true xs ys) e
     go : (t : Bool) → eqb x y ≡ t → (same_bytes xs ys ≡ true → xs ≡ ys) → (elim t as (λ _. Bool) [ true ↦ same_bytes xs ys | false ↦ false ]) ≡ true → x ∷ xs ≡ y ∷ ys
     go true p f q = ap₂ (λ (a : ℕ) (l : List ℕ). a ∷ l) (eqb-true x y p) (f q)
     go false p f q = cc
+
+pub same-pointwise : (a b : List ℕ) → pointwise eqb a b ≡ same_bytes a b
+unfolding same_bytes
+same-pointwise [] [] = refl
+same-pointwise [] (y ∷ ys) = refl
+same-pointwise (x ∷ xs) [] = refl
+same-pointwise (x ∷ xs) (y ∷ ys) = go (eqb x y) (same-pointwise xs ys)
+  where
+    go : (t : Bool) → pointwise eqb xs ys ≡ same_bytes xs ys → (t && pointwise eqb xs ys) ≡ (elim t as (λ _. Bool) [ true ↦ same_bytes xs ys | false ↦ false ])
+    go true e = e
+    go false e = refl
 
 pub same_refl : (a : List ℕ) → same_bytes a a ≡ true
 unfolding same_bytes

@@ -1,7 +1,5 @@
 -- Strings that end in a zero byte, and equality of byte runs (document 01, "The walk", "The feature record").
-use Rattle.std.specs.Prelude.{ℕ, ◌+◌, ◌-◌, Bool, true, false, List, [], ◌∷◌, eqb, length, take, drop}
-use Rattle.strings.specs.declared.Ending.{Ending}
-use Rattle.strings.specs.declared.Ending.TheVariants.{At, Nowhere}
+use Rattle.std.specs.Prelude.{ℕ, ◌+◌, ◌-◌, Bool, true, false, Option, Some, None, List, [], ◌∷◌, eqb, length, take, drop}
 
 -- what a run of bytes begins with: a string and its zero byte, or no string, since no zero byte follows
 pub data Text : Type 0 where
@@ -21,9 +19,9 @@ unfoldable pub text_at : List ℕ → ℕ → ℕ → Text
 text_at s from end = text_of (take (end - from) (drop from s))
 
 -- where the zero byte of a string stands that begins at a place
-unfoldable pub ending_of : ℕ → Text → Ending
-ending_of from (ended cs) = At (from + length cs)
-ending_of from unended = Nowhere
+unfoldable pub ending_of : ℕ → Text → Option ℕ
+ending_of from (ended cs) = Some (from + length cs)
+ending_of from unended = None
 
 -- the two runs are the same bytes
 unfoldable pub same_bytes : List ℕ → List ℕ → Bool

@@ -1,17 +1,18 @@
--- `strings::text_end` meets its contract. The loop's invariant: the string from `i` on ends where the whole one does. Assumes nothing.
+-- `strings::text_end` meets its contract. Assumes nothing.
 use native.Mathlib.Omega.{arith}
-use mathlib.Core.Path.{refl, sym, ◌∙◌}
-use Rattle.strings.proofs.Strings.{no_text, text-ends, text-goes-on}
+use mathlib.Core.Path.{◌∙◌}
+use Rattle.strings.proofs.Strings.{no_text, text-ends}
 use Rattle.strings.proofs.text_end.Goals as goal
 
-pub loop-i-init : goal.loop-i-init
-loop-i-init c = (c.least-stop.ensures, refl)
+pub returns-in_err-block : goal.returns-in_err-block
+returns-in_err-block c = c.from_residual.ensures ∙ no_text c.args.s.now c.args.from c.args.end (omega (arith, c.in_err-block.ensures.lookup))
 
-pub returns-then-s-i-eq0 : goal.returns-then-s-i-eq0
-returns-then-s-i-eq0 c = sym (text-ends _ _ _ (omega arith) c.if-s-i-eq0.true) ∙ c.loop-i.invariant.1
-
-pub loop-i-preserved : goal.loop-i-preserved
-loop-i-preserved c = (c.loop-i.invariant.0, sym (text-goes-on _ _ _ (omega arith) c.if-s-i-eq0.false) ∙ c.loop-i.invariant.1)
+pub returns-in_err-length : goal.returns-in_err-length
+returns-in_err-length c =
+    let found = c.in_ok-block.ensures.lookup.0 in
+    c.from_residual-in_err-length.ensures ∙ text-ends c.args.s.now c.args.from c.args.end c.min.ensures found.0 found.2 c.in_err-length.ensures
 
 pub returns : goal.returns
-returns c = sym (no_text _ _ _ (omega arith)) ∙ c.loop-i.invariant.1
+returns c =
+    let found = c.in_ok-block.ensures.lookup.0 in
+    text-ends c.args.s.now c.args.from c.args.end c.min.ensures found.0 found.2 c.in_ok-length.ensures
