@@ -1,13 +1,13 @@
 -- `ibm,processor-radix-AP-encodings` (document 02, A13): "1 to 16 cells", each the AP encoding and the exponent of a page size.
-use Rattle.std.specs.Prelude.{ℕ, ◌/◌, ◌%◌, List, map, length, replicate}
+use Rattle.std.specs.Prelude.{ℕ, ◌/◌, ◌%◌, List, map, length, replicate, Result}
 use Rattle.cells.specs.Cells.{cells_in}
 use Rattle.cells.specs.Rows.{padded}
-use Rattle.refusal.specs.Refusal.{Outcome, number_of, answer, refuse}
+use Rattle.refusal.specs.declared.Refusal.{Refusal}
+use Rattle.refusal.specs.Refusal.{Outcome, answer, refuse, outcome_of}
 use Rattle.refusal.specs.Checks.{first_fault}
 use Rattle.sizes.specs.Sizes.{most_sizes, ap_bit, radix_size, size_checks}
 use Rattle.radix.specs.declared.RadixEncoding.{RadixEncoding}
 use Rattle.radix.specs.declared.RadixTable.{RadixTable}
-use Rattle.radix.specs.declared.RadixEncodings.{RadixEncodings}
 
 -- "the AP field; in our hosts it is the top three bits of the cell, the page exponent the other 29"
 abbrev pub encoding_of : ℕ → RadixEncoding
@@ -28,5 +28,5 @@ unfoldable pub radix_encodings : List ℕ → Outcome RadixTable
 radix_encodings value = first_fault (refuse no_encodings) (size_checks radix_size value) (answer (radix_table (map encoding_of (cells_in value))))
 
 -- what an answer says: the number of document 01, and the table
-abbrev pub radix_outcome : RadixEncodings → Outcome RadixTable
-radix_outcome r = record { number = number_of r.refusal; value = r.table }
+abbrev pub radix_outcome : Result RadixTable Refusal → Outcome RadixTable
+radix_outcome = outcome_of (λ t. t) no_encodings

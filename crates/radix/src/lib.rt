@@ -2,7 +2,7 @@
 #![tactic(auto)]
 
 ghost use Rattle.std.specs.Prelude.{◌≡◌};
-ghost use Rattle.radix.specs.Radix.{radix_encodings, radix_outcome};
+ghost use Rattle.radix.specs.Radix.{no_encodings, radix_encodings, radix_outcome};
 ghost use Rattle.radix.specs.Parts.{encodings_in};
 
 use refusal::Refusal;
@@ -24,40 +24,43 @@ pub struct RadixTable {
     pub encodings: [RadixEncoding; 16],
 }
 
-#[derive(Clone, Copy)]
-pub struct RadixEncodings {
-    pub refusal: Refusal,
-    pub table: RadixTable,
+// What stands in a place with no encoding.
+const NO_ENCODING: RadixEncoding = RadixEncoding { ap: 0, exponent: 0 };
+
+// No encodings, as they stand beside a refusal.
+impl Default for RadixTable {
+    ghost is_default = { λ table. table ≡ no_encodings };
+
+    #[tactic(auto, unfolding(crate::specs::Radix::no_encodings))]
+    fn default() -> RadixTable {
+        RadixTable {
+            count: 0,
+            encodings: [NO_ENCODING; 16],
+        }
+    }
 }
 
 // The encodings in a row of cells: of each its two parts, zeros for a zero.
 fn encodings_of(cells: &[u32; 16]) -> [RadixEncoding; 16]
     ensures { result ≡ encodings_in cells.now }
 {
-    let none = RadixEncoding { ap: 0, exponent: 0 };
-    let mut encodings = [none; 16];
-    let mut i = 0;
-    while i < cells.len() {
-        let cell = cells[i];
+    let mut encodings = [NO_ENCODING; 16];
+    for (i, &cell) in cells.iter().enumerate() {
         encodings[i] = RadixEncoding {
             ap: cell / AP_BIT,
             exponent: cell % AP_BIT,
         };
-        i += 1;
     }
     encodings
 }
 
 // The value of `ibm,processor-radix-AP-encodings`. Refusals: 11, 8, then cell by cell 12, 19.
-pub fn radix_encodings(value: &[u8]) -> RadixEncodings
+pub fn radix_encodings(value: &[u8]) -> Result<RadixTable, Refusal>
     ensures { radix_outcome result ≡ radix_encodings value.now }
 {
-    let read = sizes::radix_sizes(value);
-    let refusal = read.refusal;
-    let cells = read.table;
-    let table = RadixTable {
+    let cells = sizes::radix_sizes(value)?;
+    Ok(RadixTable {
         count: cells.count,
         encodings: encodings_of(&cells.exponents),
-    };
-    RadixEncodings { refusal, table }
+    })
 }

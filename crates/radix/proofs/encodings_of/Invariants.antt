@@ -1,6 +1,6 @@
 -- The invariant of `radix::encodings_of`.
 use mathlib.Core.Path.{◌≡◌}
-use Prim.Native.Nat.{ℕ, ◌-◌, ◌≤◌}
+use Prim.Native.Nat.{ℕ}
 use lib.ListN.{get_or}
 use Rattle.cells.specs.Rows.{each, padded}
 use Rattle.sizes.specs.Sizes.{most_sizes}
@@ -8,7 +8,4 @@ use Rattle.radix.specs.Radix.{encoding_of, no_encoding}
 use Rattle.radix.proofs.encodings_of.Given as goal
 
 abbrev pub invariant-loop-i : goal.invariant-loop-i
-invariant-loop-i l = (l.i ≤ most_sizes) × (l.encodings ≡ padded most_sizes no_encoding (each l.i (λ (k : ℕ). encoding_of (get_or l.cells k 0))))
-
-abbrev pub decreases-loop-i : goal.decreases-loop-i
-decreases-loop-i l = most_sizes - l.i
+invariant-loop-i l = l.encodings ≡ padded most_sizes no_encoding (each l.i (λ (k : ℕ). encoding_of (get_or l.cells k 0)))
