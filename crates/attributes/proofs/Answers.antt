@@ -1,16 +1,19 @@
 -- Equal outcomes are equal answers, so that each promise decides its answer. Assumes nothing.
 use mathlib.Core.Path.{◌≡◌}
-use Rattle.refusal.proofs.Numbers.{same_answer}
-use Rattle.attributes.specs.Attributes.{pa_outcome, pi_outcome, bus_outcome}
-use Rattle.attributes.specs.declared.PaFeatures.{PaFeatures}
-use Rattle.attributes.specs.declared.PiFeatures.{PiFeatures}
-use Rattle.attributes.specs.declared.BusFrequency.{BusFrequency}
+use mathlib.Core.List.{[]}
+use Prim.Native.Nat.{ℕ}
+use Rattle.std.specs.Prelude.{Result}
+use Rattle.refusal.specs.declared.Refusal.{Refusal}
+use Rattle.refusal.proofs.Numbers.{same-outcome}
+use Rattle.attributes.specs.Attributes.{no_attributes, pi_table, pa_outcome, pi_outcome, bus_outcome}
+use Rattle.attributes.specs.declared.PaTable.{PaTable}
+use Rattle.attributes.specs.declared.PiTable.{PiTable}
 
-pub same-pa : (a b : PaFeatures) → pa_outcome a ≡ pa_outcome b → a ≡ b
-same-pa a b e = same_answer (λ r v. record { refusal = r; table = v }) a.refusal b.refusal a.table b.table e
+pub same-pa : (a b : Result PaTable Refusal) → pa_outcome a ≡ pa_outcome b → a ≡ b
+same-pa = same-outcome (λ t. t) no_attributes (λ a b e. e)
 
-pub same-pi : (a b : PiFeatures) → pi_outcome a ≡ pi_outcome b → a ≡ b
-same-pi a b e = same_answer (λ r v. record { refusal = r; table = v }) a.refusal b.refusal a.table b.table e
+pub same-pi : (a b : Result PiTable Refusal) → pi_outcome a ≡ pi_outcome b → a ≡ b
+same-pi = same-outcome (λ t. t) (pi_table []) (λ a b e. e)
 
-pub same-bus : (a b : BusFrequency) → bus_outcome a ≡ bus_outcome b → a ≡ b
-same-bus a b e = same_answer (λ r v. record { refusal = r; frequency = v }) a.refusal b.refusal a.frequency b.frequency e
+pub same-bus : (a b : Result ℕ Refusal) → bus_outcome a ≡ bus_outcome b → a ≡ b
+same-bus = same-outcome (λ n. n) 0 (λ a b e. e)

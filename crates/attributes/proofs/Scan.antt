@@ -4,16 +4,15 @@ use mathlib.Core.List.{List, [], ◌∷◌, ◌++◌, append_assoc, append-nil}
 use Prim.Native.Nat.{ℕ, suc, zero, ◌+◌, ◌-◌, ◌<◌, ◌≤◌}
 use mathlib.Core.Bool.{Bool, true, false}
 use native.Mathlib.Omega.{arith}
-use native.Mathlib.Decide.{ℕ_discrete}
 use borrow.Author.Tests.{lt-ltb, le-ltb}
 use lib.Dec.{leb→le, ltb, ltb→lt}
-use lib.ListN.{length, take, drop, length-append}
-use Rattle.refusal.specs.Refusal.{number_of, answer, refuse}
+use lib.ListN.{length, take, drop, length-append, length-take}
+use Rattle.refusal.specs.Refusal.{Outcome, number_of, answer, refuse}
 use Rattle.refusal.specs.declared.Refusal.{Refusal}
 use Rattle.refusal.specs.Checks.{Check, first_fault, fault_of}
+use Rattle.refusal.proofs.Numbers.{numbered as no_number}
 use Rattle.refusal.proofs.Checks.{Passes, holds_on, passes_on, stops, passes, Numbered, numbered-both, no-fault-passes, fault-some, fault-answers, fault-refuses, tests}
 use Rattle.attributes.specs.Attributes.{length_at, type_at, bytes_at, next_at, descriptor_checks, checks_from, if_type_zero, type_zero_from, type_zero, first_of, type_checks, attribute_checks, attribute_bytes, most_bytes}
-use Rattle.attributes.specs.Parts.{Located}
 
 abbrev number : ℕ → ℕ
 number n = n
@@ -39,22 +38,20 @@ module _ (value : List ℕ) (at : ℕ) (h : length value ≤ at) where
   zeros-end zero = refl
   zeros-end (suc k) = rw (le-ltb at (length value) h, type_zero_from)
 
--- the descriptors before `at` are read; `found` of them have type 0, the last of them from `from` to `to`
-pub record Scan (value : List ℕ) (found from to at : ℕ) : Type 0 where
+-- the descriptors before `at` are read; `found` of them have type 0, the last of them with these bytes
+pub record Scan (value : List ℕ) (found : ℕ) (bytes : List ℕ) (at : ℕ) : Type 0 where
   pub zeros : List (List ℕ)
   pub fuel : ℕ
   pub enough : length value ≤ fuel + at
   pub counted : found ≡ length zeros
   pub bounded : found ≤ at
   pub reached : at ≤ length value
-  pub ordered : from ≤ to
-  pub inside : to ≤ length value
-  pub short : to - from ≤ most_bytes
-  pub alone : found ≡ 1 → take (to - from) (drop from value) ≡ first_of zeros
+  pub short : length bytes ≤ most_bytes
+  pub alone : found ≡ 1 → bytes ≡ first_of zeros
   pub list : zeros ++ type_zero_from fuel value at ≡ type_zero value
   pub rest : fault_of (checks_from fuel value at ++ type_checks value) ≡ fault_of (attribute_checks value)
 
-pub scan-none : (value : List ℕ) → 0 < length value → Scan value 0 0 0 0
+pub scan-none : (value : List ℕ) → 0 < length value → Scan value 0 [] 0
 unfolding fault_of attribute_checks
 scan-none value h = record {
   zeros = [];
@@ -63,15 +60,13 @@ scan-none value h = record {
   counted = refl;
   bounded = omega arith;
   reached = omega arith;
-  ordered = omega arith;
-  inside = omega arith;
   short = omega arith;
   alone = λ e. absurd (omega arith);
   list = refl;
   rest = sym (holds_on number _ _ 0 (omega (arith, tests)));
 }
 
-module _ {value : List ℕ} {found from to at : ℕ} (g : Scan value found from to at) (h : at < length value) where
+module _ {value : List ℕ} {found : ℕ} {bytes : List ℕ} {at : ℕ} (g : Scan value found bytes at) (h : at < length value) where
   k : ℕ
   k = g.fuel - 1
 
@@ -89,10 +84,10 @@ module _ {value : List ℕ} {found from to at : ℕ} (g : Scan value found from 
   unfolding fault_of
   scan-stops e ne = e ∙ sym (fault-some number (descriptor_checks value at) _ 0 (λ z. ne (e ∙ z))) ∙ here
 
-  module _ {n : ℕ} (e : n ≡ fault_of (descriptor_checks value at)) (z : n ≡ 0) where
+  module _ (e : 0 ≡ fault_of (descriptor_checks value at)) where
     p : Passes (descriptor_checks value at)
     unfolding descriptor_checks
-    p = no-fault-passes (descriptor_checks value at) (omega arith) (sym e ∙ z)
+    p = no-fault-passes (descriptor_checks value at) (omega arith) (sym e)
 
     go-on : fault_of (checks_from k value (next_at value at) ++ type_checks value) ≡ fault_of (attribute_checks value)
     unfolding fault_of
@@ -113,7 +108,7 @@ module _ {value : List ℕ} {found from to at : ℕ} (g : Scan value found from 
     unfolding descriptor_checks
     few_bytes = leb→le (length_at value at) most_bytes p.1.1.0
 
-    pub scan-other : (type_at value at ≡ 0 → ⊥) → Scan value found from to (next_at value at)
+    pub scan-other : (type_at value at ≡ 0 → ⊥) → Scan value found bytes (next_at value at)
     unfolding k
     scan-other t =
         let e : type_at value at ≡ suc (type_at value at - 1) = omega arith in
@@ -124,15 +119,13 @@ module _ {value : List ℕ} {found from to at : ℕ} (g : Scan value found from 
           counted = g.counted;
           bounded = omega (arith, g.bounded);
           reached = next-inside;
-          ordered = g.ordered;
-          inside = g.inside;
           short = g.short;
           alone = g.alone;
           list = rw e at zeros-here;
           rest = go-on;
         }
 
-    pub scan-found : type_at value at ≡ 0 → Scan value (found + 1) (at + 2) (next_at value at) (next_at value at)
+    pub scan-found : type_at value at ≡ 0 → Scan value (found + 1) (take (next_at value at - (at + 2)) (drop (at + 2) value)) (next_at value at)
     unfolding k
     scan-found t = record {
       zeros = g.zeros ++ bytes_at value at ∷ [];
@@ -141,9 +134,7 @@ module _ {value : List ℕ} {found from to at : ℕ} (g : Scan value found from 
       counted = omega (arith, g.counted, length-append g.zeros (bytes_at value at ∷ []));
       bounded = omega (arith, g.bounded);
       reached = next-inside;
-      ordered = omega arith;
-      inside = next-inside;
-      short = omega (arith, few_bytes);
+      short = omega (arith, few_bytes, length-take (next_at value at - (at + 2)) (drop (at + 2) value));
       alone = λ e. only g.zeros (omega (arith, g.counted));
       list = append_assoc g.zeros (bytes_at value at ∷ []) (type_zero_from k value (next_at value at)) ∙ (rw t at zeros-here);
       rest = go-on;
@@ -154,7 +145,7 @@ module _ {value : List ℕ} {found from to at : ℕ} (g : Scan value found from 
         only (z ∷ zs) e = absurd (omega arith)
 
 -- the value ends
-module _ {value : List ℕ} {found from to at : ℕ} (g : Scan value found from to at) (h : length value ≤ at) where
+module _ {value : List ℕ} {found : ℕ} {bytes : List ℕ} {at : ℕ} (g : Scan value found bytes at) (h : length value ≤ at) where
   all-zeros : g.zeros ≡ type_zero value
   all-zeros = sym (append-nil g.zeros) ∙ (rw (zeros-end value at h g.fuel) at g.list)
 
@@ -172,32 +163,13 @@ module _ {value : List ℕ} {found from to at : ℕ} (g : Scan value found from 
   unfolding fault_of type_checks
   found-two e = let n : found ≡ length (type_zero value) = all_found in sym (stops number 0 1 (type_checks value) 0 (omega (arith, tests))) ∙ types-left
 
-  pub found-one : 0 < found → found ≤ 1 → Located (attribute_checks value) value 0 from to
-  unfolding fault_of type_checks attribute_bytes
-  found-one a b =
-      let n : found ≡ length (type_zero value) = all_found in
-      record {
-        fault = sym (passes number (type_checks value) 0 (omega (arith, tests))) ∙ types-left;
-        ordered = g.ordered;
-        inside = g.inside;
-        short = g.short;
-        used = λ _. g.alone (omega arith) ∙ ap first_of all-zeros;
-        none = λ z. absurd (z refl);
-      }
+  pub found-one : found ≡ 1 → 0 ≡ fault_of (attribute_checks value)
+  unfolding fault_of type_checks
+  found-one e = let n : found ≡ length (type_zero value) = all_found in sym (passes number (type_checks value) 0 (omega (arith, tests))) ∙ types-left
 
--- a refusal's empty part
-pub refused-part : (checks : List (Check ℕ)) (value : List ℕ) (x : Refusal) {y : Refusal} {from to : ℕ} → (y ≡ x) × (from ≡ 0) × (to ≡ 0) → 0 < number_of x → number_of x ≡ fault_of checks
-    → Located checks value (number_of y) from to
-refused-part checks value x {y} {from} {to} r p e =
-    let n : number_of y ≡ number_of x = ap number_of r.0 in
-    record {
-      fault = n ∙ e;
-      ordered = omega arith;
-      inside = omega arith;
-      short = omega arith;
-      used = λ z. absurd (omega arith);
-      none = λ _. r.1 ∙ sym r.2;
-    }
+  pub found-bytes : found ≡ 1 → bytes ≡ attribute_bytes value
+  unfolding attribute_bytes
+  found-bytes e = g.alone e ∙ ap first_of all-zeros
 
 numbered-from : (most : ℕ) (value : List ℕ) (at : ℕ) → Numbered (checks_from most value at)
 unfolding checks_from descriptor_checks
@@ -212,17 +184,13 @@ pub numbered : (value : List ℕ) → Numbered (attribute_checks value)
 unfolding attribute_checks type_checks
 numbered value = (omega arith, numbered-both (checks_from (length value) value 0) (type_checks value) (numbered-from (length value) value 0) (omega arith))
 
--- the outcome of a table that is made of the bytes used, and of no bytes for a refusal
-module _ {A : Type 0} (f : List ℕ → A) (none : A) (e : f [] ≡ none) {checks : List (Check ℕ)} (numbers : Numbered checks) where
-  pub located-outcome : {value : List ℕ} {n from to : ℕ} → Located checks value n from to
-      → record { number = n; value = f (take (to - from) (drop from value)) } ≡ first_fault (refuse none) checks (answer (f (attribute_bytes value)))
-  located-outcome {value} {n} {from} {to} g = go (ℕ_discrete n 0)
-    where
-      go : Dec (n ≡ 0) → record { number = n; value = f (take (to - from) (drop from value)) } ≡ first_fault (refuse none) checks (answer (f (attribute_bytes value)))
-      go (yes z) =
-          rw (g.used z, z)
-          (sym (fault-answers (refuse none) checks (answer (f (attribute_bytes value))) numbers (sym g.fault ∙ z)))
-      go (no z) =
-          let s : to - from ≡ 0 = omega (arith, g.none z) in
-          rw (s, e, g.fault)
-          (sym (fault-refuses (refuse none) checks (answer (f (attribute_bytes value))) (λ w. z (g.fault ∙ w))))
+-- what a call answers, whose checks are those of the bytes that are used: a refusal, or a value
+module _ {A : Type 0} (none : A) (value : List ℕ) (a : A) where
+  abbrev outcome : Outcome A
+  outcome = first_fault (refuse none) (attribute_checks value) (answer a)
+
+  pub bytes-refused : (e : Refusal) → number_of e ≡ fault_of (attribute_checks value) → refuse none (number_of e) ≡ outcome
+  bytes-refused e h = rw h (sym (fault-refuses (refuse none) (attribute_checks value) (answer a) (λ z. no_number e (h ∙ z))))
+
+  pub bytes-used : 0 ≡ fault_of (attribute_checks value) → answer a ≡ outcome
+  bytes-used h = sym (fault-answers (refuse none) (attribute_checks value) (answer a) (numbered value) (sym h))

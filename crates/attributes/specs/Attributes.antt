@@ -1,14 +1,12 @@
 -- `ibm,pa-features`, `ibm,pi-features` and `ibm,extended-bus-frequency` (document 01, "CPU properties and unit text").
-use Rattle.std.specs.Prelude.{ℕ, zero, suc, ◌+◌, ◌-◌, ◌/◌, true, false, cond, List, [], ◌∷◌, ◌++◌, leb, ltb, eqb, length, take, drop, replicate}
+use Rattle.std.specs.Prelude.{ℕ, zero, suc, ◌+◌, ◌-◌, ◌/◌, true, false, cond, List, [], ◌∷◌, ◌++◌, leb, ltb, eqb, length, take, drop, replicate, Result}
 use Rattle.cells.specs.Cells.{byte_at, word_at}
-use Rattle.refusal.specs.Refusal.{Outcome, number_of, answer, refuse}
+use Rattle.refusal.specs.declared.Refusal.{Refusal}
+use Rattle.refusal.specs.Refusal.{Outcome, answer, refuse, outcome_of}
 use Rattle.refusal.specs.Checks.{Check, check, first_fault}
 use Rattle.cells.specs.Rows.{each, padded}
 use Rattle.attributes.specs.declared.PaTable.{PaTable}
-use Rattle.attributes.specs.declared.PaFeatures.{PaFeatures}
 use Rattle.attributes.specs.declared.PiTable.{PiTable}
-use Rattle.attributes.specs.declared.PiFeatures.{PiFeatures}
-use Rattle.attributes.specs.declared.BusFrequency.{BusFrequency}
 
 -- "length byte (1 to 254)"
 abbrev pub most_bytes : ℕ
@@ -149,11 +147,11 @@ unfoldable pub bus_frequency : List ℕ → Outcome ℕ
 bus_frequency value = first_fault (refuse 0) (check (eqb (length value) 8) 11 ∷ []) (answer (word_at value 0))
 
 -- what each answer says: the number of document 01, and the value
-abbrev pub pa_outcome : PaFeatures → Outcome PaTable
-pa_outcome r = record { number = number_of r.refusal; value = r.table }
+abbrev pub pa_outcome : Result PaTable Refusal → Outcome PaTable
+pa_outcome = outcome_of (λ t. t) no_attributes
 
-abbrev pub pi_outcome : PiFeatures → Outcome PiTable
-pi_outcome r = record { number = number_of r.refusal; value = r.table }
+abbrev pub pi_outcome : Result PiTable Refusal → Outcome PiTable
+pi_outcome = outcome_of (λ t. t) (pi_table [])
 
-abbrev pub bus_outcome : BusFrequency → Outcome ℕ
-bus_outcome r = record { number = number_of r.refusal; value = r.frequency }
+abbrev pub bus_outcome : Result ℕ Refusal → Outcome ℕ
+bus_outcome = outcome_of (λ n. n) 0

@@ -1,17 +1,18 @@
 // `ibm,pa-features`, `ibm,pi-features` and `ibm,extended-bus-frequency`.
 #![tactic(auto)]
 
-ghost use Rattle.std.specs.Prelude.{◌≡◌, ◌≤◌, ◌<◌, length};
+ghost use Rattle.std.specs.Prelude.{◌≡◌, [], ◌≤◌, ◌<◌, length, IfOk};
 ghost use Rattle.cells.specs.Buffer.{written};
-ghost use Rattle.refusal.specs.Refusal.{number_of};
+ghost use Rattle.refusal.specs.Refusal.{number_in};
 ghost use Rattle.refusal.specs.Checks.{fault_of};
 ghost use Rattle.attributes.specs.Attributes.{
   descriptor_checks,
   attribute_checks,
+  attribute_bytes,
+  no_attributes,
   later_bytes,
   pa_table,
   known_bytes,
-  pa_checks,
   pa_features,
   pa_outcome,
   pi_table,
@@ -20,7 +21,7 @@ ghost use Rattle.attributes.specs.Attributes.{
   bus_frequency,
   bus_outcome,
 };
-ghost use Rattle.attributes.specs.Parts.{Located, known_count};
+ghost use Rattle.attributes.specs.Parts.{known_count};
 
 use refusal::Refusal;
 
@@ -54,10 +55,26 @@ pub struct PaTable {
     pub raw_later: [u8; LATER_BYTES],
 }
 
-#[derive(Clone, Copy)]
-pub struct PaFeatures {
-    pub refusal: Refusal,
-    pub table: PaTable,
+// No attributes, as they stand beside a refusal.
+impl Default for PaTable {
+    ghost is_default = { λ table. table ≡ no_attributes };
+
+    #[tactic(auto, unfolding(crate::specs::Attributes::no_attributes))]
+    fn default() -> PaTable {
+        PaTable {
+            raw: [0; 6],
+            data_streams: 0,
+            vector: 0,
+            vector_scalar: 0,
+            vector_crypto: 0,
+            transactional_memory: 0,
+            copy_paste: 0,
+            radix_translation: 0,
+            second_watchpoint: 0,
+            coprocessor: 0,
+            raw_later: [0; LATER_BYTES],
+        }
+    }
 }
 
 // The bytes of `ibm,pi-features`, and zeros.
@@ -68,93 +85,63 @@ pub struct PiTable {
     pub bytes: [u8; MOST_BYTES],
 }
 
-#[derive(Clone, Copy)]
-pub struct PiFeatures {
-    pub refusal: Refusal,
-    pub table: PiTable,
-}
+// No bytes, as they stand beside a refusal.
+impl Default for PiTable {
+    ghost is_default = { λ table. table ≡ pi_table [] };
 
-#[derive(Clone, Copy)]
-pub struct BusFrequency {
-    pub refusal: Refusal,
-    pub frequency: u64,
-}
-
-// Where the bytes of the one descriptor of type 0 stand.
-#[derive(Clone, Copy)]
-struct TypeZero {
-    refusal: Refusal,
-    from: usize,
-    to: usize,
-}
-
-fn type_zero_refused(refusal: Refusal) -> TypeZero
-    ensures { (result.refusal ≡ refusal) × (result.from ≡ 0) × (result.to ≡ 0) }
-{
-    TypeZero {
-        refusal,
-        from: 0,
-        to: 0,
+    #[tactic(auto, unfolding(crate::specs::Attributes::pi_table))]
+    fn default() -> PiTable {
+        PiTable {
+            count: 0,
+            bytes: [0; MOST_BYTES],
+        }
     }
 }
 
-// The refusal of the descriptor at a place of the value.
-fn descriptor_refusal(value: &[u8], at: usize) -> Refusal
+// Checks the descriptor at a place of the value.
+fn check_descriptor(value: &[u8], at: usize) -> Result<(), Refusal>
     requires { at < length value.now }
-    ensures { number_of result ≡ fault_of (descriptor_checks value.now at) }
+    ensures { number_in result ≡ fault_of (descriptor_checks value.now at) }
 {
     let left = value.len() - at;
     if left < 2 {
-        return Refusal::PropertyForm;
+        return Err(Refusal::PropertyForm);
     }
-    let length = value[at] as usize;
-    if length == 0 {
-        return Refusal::OutOfRange;
-    }
-    if MOST_BYTES < length {
-        return Refusal::OutOfRange;
+    let length = usize::from(value[at]);
+    if length == 0 || MOST_BYTES < length {
+        return Err(Refusal::OutOfRange);
     }
     if left - 2 < length {
-        return Refusal::PropertyForm;
+        return Err(Refusal::PropertyForm);
     }
-    Refusal::None
+    Ok(())
 }
 
-// The one descriptor of type 0.
-fn type_zero(value: &[u8]) -> TypeZero
-    ensures { Located (attribute_checks value.now) value.now (number_of result.refusal) result.from result.to }
+// The bytes of the one descriptor of type 0. Refusals: 11 for no bytes; descriptor by descriptor 11, 12, 11; 10; 9.
+fn type_zero(value: &[u8]) -> Result<&[u8], Refusal>
+    ensures refusal { number_in result ≡ fault_of (attribute_checks value.now) }
+    ensures used { IfOk result (λ bytes. (bytes.now ≡ attribute_bytes value.now) × (length bytes.now ≤ 254)) }
 {
-    if value.len() == 0 {
-        return type_zero_refused(Refusal::PropertyForm);
+    if value.is_empty() {
+        return Err(Refusal::PropertyForm);
     }
     let mut found: usize = 0;
-    let mut from = 0;
-    let mut to = 0;
+    let mut bytes: &[u8] = &[];
     let mut at = 0;
     while at < value.len() {
-        let refusal = descriptor_refusal(value, at);
-        if refusal::number(refusal) != 0 {
-            return type_zero_refused(refusal);
-        }
+        check_descriptor(value, at)?;
         let start = at + 2;
-        let next = start + value[at] as usize;
+        let next = start + usize::from(value[at]);
         if value[at + 1] == 0 {
             found += 1;
-            from = start;
-            to = next;
+            bytes = &value[start..next];
         }
         at = next;
     }
-    if found == 0 {
-        return type_zero_refused(Refusal::NotFound);
-    }
-    if 1 < found {
-        return type_zero_refused(Refusal::Repeated);
-    }
-    TypeZero {
-        refusal: Refusal::None,
-        from,
-        to,
+    match found {
+        0 => Err(Refusal::NotFound),
+        1 => Ok(bytes),
+        _ => Err(Refusal::Repeated),
     }
 }
 
@@ -163,11 +150,7 @@ fn put_bytes(row: &mut [u8], bytes: &[u8])
     requires { length bytes.now ≤ length row.old }
     ensures { row.new ≡ written row.old 0 bytes.now }
 {
-    let mut i = 0;
-    while i < bytes.len() {
-        row[i] = bytes[i];
-        i += 1;
-    }
+    row[..bytes.len()].copy_from_slice(bytes);
 }
 
 // The later bytes of a descriptor, and zeros.
@@ -175,9 +158,9 @@ fn later_bytes(bytes: &[u8]) -> [u8; LATER_BYTES]
     requires { length bytes.now ≤ 254 }
     ensures { result ≡ later_bytes bytes.now }
 {
-    let mut later: [u8; LATER_BYTES] = [0; LATER_BYTES];
+    let mut later = [0; LATER_BYTES];
     if FIRST_LATER < bytes.len() {
-        put_bytes(&mut later, &bytes[FIRST_LATER..bytes.len()]);
+        put_bytes(&mut later, &bytes[FIRST_LATER..]);
     }
     later
 }
@@ -187,14 +170,15 @@ fn attributes(bytes: &[u8]) -> PaTable
     requires { length bytes.now ≤ 254 }
     ensures { result ≡ pa_table bytes.now }
 {
-    let b0 = cells::byte_at(bytes, 0);
-    let b1 = cells::byte_at(bytes, 1);
-    let b2 = cells::byte_at(bytes, 2);
-    let b3 = cells::byte_at(bytes, 3);
-    let b4 = cells::byte_at(bytes, 4);
-    let b5 = cells::byte_at(bytes, 5);
     PaTable {
-        raw: [b0, b1, b2, b3, b4, b5],
+        raw: [
+            cells::byte_at(bytes, 0),
+            cells::byte_at(bytes, 1),
+            cells::byte_at(bytes, 2),
+            cells::byte_at(bytes, 3),
+            cells::byte_at(bytes, 4),
+            cells::byte_at(bytes, 5),
+        ],
         data_streams: cells::byte_at(bytes, 6) / 128,
         vector: cells::byte_at(bytes, 16) / 128,
         vector_scalar: cells::byte_at(bytes, 18) / 128,
@@ -213,7 +197,7 @@ fn known_count(edition: u32, count: usize) -> usize
     ensures { result ≡ known_count edition count }
 {
     if edition == EDITION_FIRST {
-        return cells::least(count, FIRST_LATER);
+        return count.min(FIRST_LATER);
     }
     count
 }
@@ -224,30 +208,19 @@ fn edition_attributes(edition: u32, bytes: &[u8]) -> PaTable
     ensures { result ≡ pa_table (known_bytes edition bytes.now) }
 {
     let known = known_count(edition, bytes.len());
-    attributes(&bytes[0..known])
-}
-
-// The one descriptor of type 0, where there is such an edition.
-fn edition_type_zero(edition: u32, value: &[u8]) -> TypeZero
-    ensures { Located (pa_checks edition value.now) value.now (number_of result.refusal) result.from result.to }
-{
-    if EDITION_LATER < edition {
-        return type_zero_refused(Refusal::Level);
-    }
-    type_zero(value)
+    attributes(&bytes[..known])
 }
 
 // The value of `ibm,pa-features`, in an edition. Refusals: 15 for an edition other than the two; 11 for no bytes; descriptor by
 // descriptor 11, 12, 11; 10; 9.
-pub fn pa_features(value: &[u8], edition: u32) -> PaFeatures
+pub fn pa_features(value: &[u8], edition: u32) -> Result<PaTable, Refusal>
     ensures { pa_outcome result ≡ pa_features edition value.now }
 {
-    let found = edition_type_zero(edition, value);
-    let refusal = found.refusal;
-    let from = found.from;
-    let to = found.to;
-    let table = edition_attributes(edition, &value[from..to]);
-    PaFeatures { refusal, table }
+    if EDITION_LATER < edition {
+        return Err(Refusal::Level);
+    }
+    let bytes = type_zero(value)?;
+    Ok(edition_attributes(edition, bytes))
 }
 
 // The bytes of a descriptor, and zeros.
@@ -255,7 +228,7 @@ fn raw_bytes(bytes: &[u8]) -> PiTable
     requires { length bytes.now ≤ 254 }
     ensures { result ≡ pi_table bytes.now }
 {
-    let mut row: [u8; MOST_BYTES] = [0; MOST_BYTES];
+    let mut row = [0; MOST_BYTES];
     put_bytes(&mut row, bytes);
     PiTable {
         count: bytes.len() as u32,
@@ -264,29 +237,19 @@ fn raw_bytes(bytes: &[u8]) -> PiTable
 }
 
 // The value of `ibm,pi-features`. Refusals as for `ibm,pa-features`.
-pub fn pi_features(value: &[u8]) -> PiFeatures
+pub fn pi_features(value: &[u8]) -> Result<PiTable, Refusal>
     ensures { pi_outcome result ≡ pi_features value.now }
 {
-    let found = type_zero(value);
-    let refusal = found.refusal;
-    let from = found.from;
-    let to = found.to;
-    let table = raw_bytes(&value[from..to]);
-    PiFeatures { refusal, table }
+    let bytes = type_zero(value)?;
+    Ok(raw_bytes(bytes))
 }
 
 // The value of `ibm,extended-bus-frequency`. Refusal: 11.
-pub fn bus_frequency(value: &[u8]) -> BusFrequency
+pub fn bus_frequency(value: &[u8]) -> Result<u64, Refusal>
     ensures { bus_outcome result ≡ bus_frequency value.now }
 {
     if value.len() != 8 {
-        return BusFrequency {
-            refusal: Refusal::PropertyForm,
-            frequency: 0,
-        };
+        return Err(Refusal::PropertyForm);
     }
-    BusFrequency {
-        refusal: Refusal::None,
-        frequency: cells::word_at(value, 0),
-    }
+    Ok(cells::word_at(value, 0))
 }

@@ -6,7 +6,7 @@ use Rattle.attributes.proofs.known_count.Goals as goal
 
 pub returns-then-edition-eq-EDITION_FIRST : goal.returns-then-edition-eq-EDITION_FIRST
 unfolding known_count
-returns-then-edition-eq-EDITION_FIRST c = rw (eq-eqb c.args.edition edition_first c.if-edition-eq-EDITION_FIRST.true) c.least.ensures
+returns-then-edition-eq-EDITION_FIRST c = rw (eq-eqb c.args.edition edition_first c.if-edition-eq-EDITION_FIRST.true) c.min.ensures
 
 pub returns : goal.returns
 unfolding known_count

@@ -1,24 +1,15 @@
--- `attributes::put_bytes` meets its contract. The loop's invariant is `Copying`. Assumes nothing.
+-- `attributes::put_bytes` meets its contract. Assumes nothing.
+use mathlib.Core.Path.{◌≡◌, ap}
+use mathlib.Core.List.{◌++◌}
+use Prim.Native.Nat.{ℕ, ◌+◌}
 use native.Mathlib.Omega.{arith}
-use mathlib.Core.Path.{◌≡◌}
-use Prim.Native.Nat.{◌+◌}
-use Rattle.cells.proofs.Copying.{copy-begins, copy-length, copy_more, copy-whole}
+use lib.ListN.{length, drop}
+use Rattle.cells.specs.Buffer.{written}
 use Rattle.attributes.proofs.put_bytes.Goals as goal
 
-pub loop-i-init : goal.loop-i-init
-loop-i-init c = copy-begins _ 0 _ (omega (arith, c.requires))
-
-pub bounds-row-i : goal.bounds-row-i
-bounds-row-i c = let w = c.loop-i.invariant in omega (arith, w.fits, copy-length w)
-
-pub loop-i-preserved : goal.loop-i-preserved
-loop-i-preserved c =
-    let l = c.loop-i in
-    let e : 0 + l.i ≡ l.i = omega arith in
-    rw e at (copy_more l.invariant (omega arith))
-
-pub shape_of-row : goal.shape_of-row
-shape_of-row c = copy-length c.loop-i.invariant
-
 pub returns : goal.returns
-returns c = copy-whole c.loop-i.invariant (omega arith)
+unfolding written
+returns c =
+    let bytes = c.args.bytes.now in
+    let e : length bytes ≡ 0 + length bytes = omega arith in
+    rw c.copy_from_slice.ensures.after (ap (λ (n : ℕ). bytes ++ drop n c.args.row.now) e)

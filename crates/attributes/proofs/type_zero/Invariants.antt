@@ -5,7 +5,7 @@ use Rattle.attributes.proofs.Scan.{Scan}
 use Rattle.attributes.proofs.type_zero.Given as goal
 
 abbrev pub invariant-loop-at : goal.invariant-loop-at
-invariant-loop-at l = Scan l.value l.found l.from l.to l.at
+invariant-loop-at l = Scan l.value l.found l.bytes l.at
 
 abbrev pub decreases-loop-at : goal.decreases-loop-at
 decreases-loop-at l = length l.value - l.at
