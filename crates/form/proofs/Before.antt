@@ -3,12 +3,11 @@ use Prim.Native.Nat.{ℕ, zero, suc}
 use mathlib.Core.Path.{◌≡◌, refl, sym, ap, ◌∙◌}
 use mathlib.Core.Bool.{Bool, true, false, not, ◌&&◌, ◌||◌}
 use lib.Dec.{leb, ltb}
+use Rattle.std.specs.Prelude.{Option, None, Some}
 use Rattle.positions.specs.Below.{every}
 use Rattle.record.specs.declared.Feature.{Feature}
 use Rattle.record.specs.declared.Record.{Record}
 use Rattle.record.specs.declared.Property.TheVariants.{UsablePrivilege, HwcapBitNr}
-use Rattle.record.specs.declared.Cell.{Cell}
-use Rattle.record.specs.declared.Cell.TheVariants.{Absent, Given}
 use Rattle.record.specs.Record.{most_features, most_dependencies, highest_hwcap_bit, feature_at, slot_at}
 use Rattle.record.specs.Cells.{cell, low_bit, given_in, dependency_count}
 use Rattle.form.specs.WellFormed.{bit_fits, bits_fit, slot_below, slots_fit, feature_fits, well_formed}
@@ -58,11 +57,11 @@ every-both zero p q = refl
 every-both (suc n) p q = ap (λ (b : Bool). b && (p n && q n)) (every-both n p q) ∙ and-pairs (every n p) (every n q) (p n) (q n)
 
 -- a number that fits where it is required: it fits, and is given
-required-split : (highest : ℕ) (required : Bool) (c : Cell) → bit_fits highest required c ≡ bit_fits highest false c && (not required || given_in c)
-required-split highest true Absent = refl
-required-split highest false Absent = refl
-required-split highest true (Given n) = and-swap true (leb n highest)
-required-split highest false (Given n) = and-swap true (leb n highest)
+required-split : (highest : ℕ) (required : Bool) (c : Option ℕ) → bit_fits highest required c ≡ bit_fits highest false c && (not required || given_in c)
+required-split highest true None = refl
+required-split highest false None = refl
+required-split highest true (Some n) = and-swap true (leb n highest)
+required-split highest false (Some n) = and-swap true (leb n highest)
 
 module _ (r : Record) where
   feature-before : (i : ℕ) → feature_fitted r i ≡ feature_fits r i && has_capability r i

@@ -1,19 +1,12 @@
 -- The three bit numbers of a feature, as the code tests them. Assumes nothing.
-use mathlib.Core.Path.{◌≡◌, ap, ap₂, ◌∙◌}
+use mathlib.Core.Path.{◌≡◌}
 use mathlib.Core.Bool.{Bool, true, false, ◌&&◌}
-use Prim.Native.Nat.{ℕ}
 use Rattle.positions.proofs.BelowLaws.{and_left, and_right}
 use Rattle.record.specs.Record.{highest_hfscr_bit, highest_fscr_bit, highest_hwcap_bit}
 use Rattle.record.specs.Cells.{cell, low_bit}
 use Rattle.record.specs.declared.Feature.{Feature}
 use Rattle.record.specs.declared.Property.TheVariants.{HvSupport, OsSupport, HfscrBitNr, FscrBitNr, HwcapBitNr}
-use Rattle.record.specs.declared.Cell.{Cell}
 use Rattle.form.specs.WellFormed.{bit_fits, bits_fit}
-
--- the bit number in y, required by bit 0 of the cell x, by way of the code's locals
-pub fits_by : (highest : ℕ) {fits required : Bool} {a b x y : Cell} → fits ≡ bit_fits highest required a → required ≡ low_bit b → b ≡ x → a ≡ y
-    → fits ≡ bit_fits highest (low_bit x) y
-fits_by highest e l p q = e ∙ ap₂ (bit_fits highest) (l ∙ ap low_bit p) q
 
 module _ (f : Feature) where
   -- the three tests of `bits_fit`
@@ -25,18 +18,6 @@ module _ (f : Feature) where
 
   abbrev pub capability_fits : Bool
   capability_fits = bit_fits highest_hwcap_bit false (cell f HwcapBitNr)
-
-  pub bits-first : hypervisor_fits ≡ false → false ≡ bits_fit f
-  unfolding bits_fit
-  bits-first h = rw h
-
-  pub bits-second : hypervisor_fits ≡ true → system_fits ≡ false → false ≡ bits_fit f
-  unfolding bits_fit
-  bits-second h s = rw (h, s)
-
-  pub bits-third : hypervisor_fits ≡ true → system_fits ≡ true → capability_fits ≡ bits_fit f
-  unfolding bits_fit
-  bits-third h s = rw (h, s)
 
   -- each of them, where all hold
   module _ (e : bits_fit f ≡ true) where

@@ -5,6 +5,7 @@ use mathlib.Core.Bool.{Bool, true, false}
 use native.Mathlib.Omega.{arith}
 use borrow.Author.Tests.{leb-true, ltb-true, le-leb, lt-ltb}
 use lib.Dec.{leb}
+use Rattle.std.specs.Prelude.{Option, None, Some}
 use Rattle.positions.specs.Below.{every}
 use Rattle.positions.proofs.BelowLaws.{and_left, and_right, no_way, every-at, every_of}
 use Rattle.record.specs.Record.{most_features, most_dependencies, no_features, feature_at, slot_at}
@@ -14,22 +15,20 @@ use Rattle.form.specs.WellFormed.{bit_fits, bits_fit, slot_below, slots_fit, fea
 use Rattle.form.proofs.BitLaws.{fits-hypervisor, fits-system, fits-capability}
 use Rattle.record.specs.declared.Feature.{Feature}
 use Rattle.record.specs.declared.Record.{Record}
-use Rattle.record.specs.declared.Cell.{Cell}
-use Rattle.record.specs.declared.Cell.TheVariants.{Absent, Given}
 
 -- a bit number that fits is in range, and given where it is required; and the reverse
-in-range : (highest : ℕ) (required : Bool) (c : Cell) → bit_fits highest required c ≡ true → InRange highest c
-in-range highest required Absent e n h = let z : ◌≡◌ {A = ℕ} 0 1 = cc in absurd (omega arith)
-in-range highest required (Given m) e n h = let same : m ≡ n = cc in omega (arith, leb-true m highest e)
+in-range : (highest : ℕ) (required : Bool) (c : Option ℕ) → bit_fits highest required c ≡ true → InRange highest c
+in-range highest required None e n h = let z : ◌≡◌ {A = ℕ} 0 1 = cc in absurd (omega arith)
+in-range highest required (Some m) e n h = let same : m ≡ n = cc in omega (arith, leb-true m highest e)
 
-is-given : (highest : ℕ) (required : Bool) (c : Cell) → bit_fits highest required c ≡ true → required ≡ true → (n : ℕ) × (c ≡ Given n)
-is-given highest required Absent e h = no_way false (rw h at e) refl
-is-given highest required (Given m) e h = (m, refl)
+is-given : (highest : ℕ) (required : Bool) (c : Option ℕ) → bit_fits highest required c ≡ true → required ≡ true → (n : ℕ) × (c ≡ Some n)
+is-given highest required None e h = no_way false (rw h at e) refl
+is-given highest required (Some m) e h = (m, refl)
 
-bit-passes : (highest : ℕ) (required : Bool) (c : Cell) → InRange highest c → (required ≡ true → (n : ℕ) × (c ≡ Given n)) → bit_fits highest required c ≡ true
-bit-passes highest true Absent low there = let given = there refl in let z : ◌≡◌ {A = ℕ} 0 1 = cc given.1 in absurd (omega arith)
-bit-passes highest false Absent low there = refl
-bit-passes highest required (Given n) low there = le-leb n highest (low n refl)
+bit-passes : (highest : ℕ) (required : Bool) (c : Option ℕ) → InRange highest c → (required ≡ true → (n : ℕ) × (c ≡ Some n)) → bit_fits highest required c ≡ true
+bit-passes highest true None low there = let given = there refl in let z : ◌≡◌ {A = ℕ} 0 1 = cc given.1 in absurd (omega arith)
+bit-passes highest false None low there = refl
+bit-passes highest required (Some n) low there = le-leb n highest (low n refl)
 
 module _ (r : Record) (i : ℕ) where
   abbrev feature : Feature

@@ -1,18 +1,16 @@
 -- The test of whether a feature record is well formed: `Formed` says what that is (document 01, number 14).
-use Rattle.std.specs.Prelude.{ℕ, ◌+◌, ◌*◌, Bool, false, not, ◌&&◌, List, leb, ltb, get_or}
+use Rattle.std.specs.Prelude.{ℕ, ◌+◌, ◌*◌, Bool, false, not, ◌&&◌, List, leb, ltb, get_or, Option, None, Some}
 use Rattle.positions.specs.Below.{every}
 use Rattle.record.specs.declared.Feature.{Feature}
 use Rattle.record.specs.declared.Record.{Record}
 use Rattle.record.specs.declared.Property.TheVariants.{HvSupport, OsSupport, HfscrBitNr, FscrBitNr, HwcapBitNr}
-use Rattle.record.specs.declared.Cell.{Cell}
-use Rattle.record.specs.declared.Cell.TheVariants.{Absent, Given}
 use Rattle.record.specs.Record.{most_features, most_dependencies, highest_hfscr_bit, highest_fscr_bit, highest_hwcap_bit, feature_at}
 use Rattle.record.specs.Cells.{cell, low_bit, dependency_count}
 
 -- a bit number is in range where it is given, and given where it is required
-abbrev pub bit_fits : ℕ → Bool → Cell → Bool
-bit_fits highest required Absent = not required
-bit_fits highest required (Given n) = leb n highest
+abbrev pub bit_fits : ℕ → Bool → Option ℕ → Bool
+bit_fits highest required None = not required
+bit_fits highest required (Some n) = leb n highest
 
 -- the three bit numbers of a feature; that of a capability is never required
 unfoldable pub bits_fit : Feature → Bool

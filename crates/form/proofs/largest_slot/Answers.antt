@@ -1,13 +1,7 @@
--- `form::largest_slot` meets its contract. The loop: none of the slots passed is above the number kept. Assumes nothing.
+-- `form::largest_slot` meets its contract. Assumes nothing.
 use native.Mathlib.Omega.{arith}
-use Rattle.form.proofs.FormedLaws.{largest-none, largest-next, largest-all}
+use Rattle.form.proofs.FormedLaws.{own-slot, length-own}
 use Rattle.form.proofs.largest_slot.Goals as goal
 
-pub loop-j-init : goal.loop-j-init
-loop-j-init c = largest-none _ _
-
-pub loop-j-preserved : goal.loop-j-preserved
-loop-j-preserved c = largest-next _ _ c.loop-j.invariant (omega arith) c.larger-most.ensures
-
 pub returns : goal.returns
-returns c = largest-all _ _ c.loop-j.invariant (omega arith) c.wide.ensures
+returns c = λ j h. omega (arith, own-slot c.args.slots.now 0 c.args.i 16 j h, length-own c.args.slots.now 0 c.args.i 16 (omega arith), c.loop-slot.invariant j (omega (arith, length-own c.args.slots.now 0 c.args.i 16 (omega arith))))

@@ -1,11 +1,7 @@
--- The invariant of `form::largest_slot`.
-use Prim.Native.Nat.{◌-◌}
-use Rattle.record.specs.Record.{most_dependencies}
-use Rattle.form.proofs.FormedLaws.{LargestTo}
+-- The invariant of `form::largest_slot`: none of the slots passed is above the number kept.
+use Prim.Native.Nat.{ℕ, ◌≤◌, ◌<◌}
+use lib.ListN.{get_or}
 use Rattle.form.proofs.largest_slot.Given as goal
 
-abbrev pub invariant-loop-j : goal.invariant-loop-j
-invariant-loop-j l = LargestTo l.slots l.i l.most l.j
-
-abbrev pub decreases-loop-j : goal.decreases-loop-j
-decreases-loop-j l = most_dependencies - l.j
+abbrev pub invariant-loop-slot : goal.invariant-loop-slot
+invariant-loop-slot l = (k : ℕ) → k < l.slot-index → get_or l.slot-items k 0 ≤ l.most

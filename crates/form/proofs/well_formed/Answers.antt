@@ -1,33 +1,25 @@
--- `form::well_formed` meets its contract. The loop's invariant: the features passed fit. Assumes nothing.
-use mathlib.Core.Path.{refl, sym, ap, ◌∙◌}
+-- `form::well_formed` meets its contract. Assumes nothing.
+use mathlib.Core.Path.{refl, ◌∙◌}
 use native.Mathlib.Omega.{arith}
+use lib.ListN.{length-take}
 use Rattle.positions.specs.Below.{every}
 use Rattle.positions.proofs.BelowLaws.{every_more}
-use Rattle.form.specs.WellFormed.{slots_fit}
-use Rattle.form.proofs.FormedLaws.{fits_both, formed-many, formed-bits, formed-slots, formed-all}
+use Rattle.form.proofs.FormedLaws.{fits-at, formed-many, formed-fail, formed-all}
+use Rattle.record.specs.declared.Feature.{Feature}
 use Rattle.form.proofs.well_formed.Goals as goal
 
-pub returns-then-left-gt-MOST_FEATURES : goal.returns-then-left-gt-MOST_FEATURES
-returns-then-left-gt-MOST_FEATURES c = formed-many _ c.if-left-gt-MOST_FEATURES.true
+pub returns-then-count-gt-MOST_FEATURES : goal.returns-then-count-gt-MOST_FEATURES
+returns-then-count-gt-MOST_FEATURES c = formed-many _ (omega arith)
 
-pub loop-left-init : goal.loop-left-init
+pub loop-i-init : goal.loop-i-init
 unfolding every
-loop-left-init c = (omega arith, omega arith, refl)
+loop-i-init c = refl
 
-pub returns-then-not-bits_fit : goal.returns-then-not-bits_fit
-returns-then-not-bits_fit c = formed-bits _ c.loop-left.i (omega arith) (sym c.bits_fit.ensures ∙ c.if-not-bits_fit.true)
+pub returns-then-not-fits : goal.returns-then-not-fits
+returns-then-not-fits c = formed-fail _ c.loop-i.i (omega (arith, length-take {A = Feature})) (fits-at c.args.r _ (omega (arith, length-take {A = Feature})) c.fits.ensures ∙ c.if-not-fits.true)
 
-pub returns-then-not-dependencies_fit : goal.returns-then-not-dependencies_fit
-returns-then-not-dependencies_fit c =
-    let fits = c.dependencies_fit.ensures ∙ ap (slots_fit _ _ _) c.dependency_count.ensures in
-    formed-slots _ c.loop-left.i (omega arith) (sym fits ∙ c.if-not-dependencies_fit.true)
-
-pub loop-left-preserved : goal.loop-left-preserved
-loop-left-preserved c =
-    let l = c in
-    let fits = c.dependencies_fit.ensures ∙ ap (slots_fit _ _ _) c.dependency_count.ensures in
-    let bits = sym c.bits_fit.ensures ∙ c.if-not-bits_fit.false in
-    (omega arith, omega arith, every_more _ _ l.loop-left.invariant.2 (fits_both l.args.r _ bits (sym fits ∙ c.if-not-dependencies_fit.false)))
+pub loop-i-preserved : goal.loop-i-preserved
+loop-i-preserved c = every_more c.loop-i.i _ c.loop-i.invariant (fits-at c.args.r _ (omega (arith, length-take {A = Feature})) c.fits.ensures ∙ c.if-not-fits.false)
 
 pub returns : goal.returns
-returns c = formed-all _ (omega arith) (omega arith) c.loop-left.invariant.2
+returns c = formed-all _ (omega (arith, length-take {A = Feature})) (omega arith) c.loop-i.invariant
