@@ -1,17 +1,19 @@
 -- Laws of node and property names: what the characters passed say of the whole name, and what a name that was read says. Assumes nothing.
 use mathlib.Core.Path.{◌≡◌, refl, sym, ap, ◌∙◌}
-use mathlib.Core.Bool.{Bool, true, false, not, cond}
+use mathlib.Core.Bool.{Bool, true, false, not, cond, ◌&&◌}
 use mathlib.Core.Logic.{◌⊎◌, inl, inr}
 use mathlib.Core.List.{List, [], ◌∷◌, ◌++◌, append_assoc, append-nil}
-use Prim.Native.Nat.{ℕ, suc, ◌+◌, ◌-◌, ◌<◌, ◌≤◌, min}
+use Prim.Native.Nat.{ℕ, suc, ◌+◌, ◌<◌, ◌≤◌, min}
 use native.Mathlib.Omega.{arith}
-use borrow.Author.Tests.{eq-eqb, ne_eqb, eqb-true, eqb-false, le-leb, lt-leb, leb-true, leb-false}
-use lib.Dec.{eqb, leb}
+use borrow.Author.Tests.{eq-eqb, ne_eqb, eqb-true, eqb-false, le-leb, lt-leb, leb-true, leb-false, ltb-true, ltb-false}
+use lib.Dec.{eqb, leb, ltb}
+use native.Mathlib.Nat.{add-zero}
+use Rattle.std.specs.Bool.{then_some}
 use lib.ListN.{get_or, length, length-append}
 use Rattle.characters.specs.Characters.{is_node_character, is_property_character, one_if}
 use Rattle.strings.specs.Strings.{Text, ended, unended, onto, text_at}
 use Rattle.refusal.specs.Refusal.{Outcome, answer, refuse}
-use Rattle.names.specs.Names.{most_node_name, most_property_name, at_sign, both, either, every, at_signs, first_is_plain, last_is_plain, length_within, node_characters, is_node_name, is_property_name, is_root_name, read_name, node_name_at, property_name_at, root_name_at}
+use Rattle.names.specs.Names.{most_node_name, most_property_name, at_sign, name_outcome, both, either, every, at_signs, first_is_plain, last_is_plain, length_within, node_characters, is_node_name, is_property_name, is_root_name, read_name, node_name_at, property_name_at, root_name_at}
 use Rattle.strings.proofs.Strings.{text-none, text-empty, text-more, text-within}
 use Rattle.names.proofs.Texts.{prefixed, prefixed-onto}
 
@@ -30,51 +32,61 @@ long-false most cs rest h = rw (lt-leb (length cs) most h) (go (leb 1 (length cs
     go true = refl
     go false = refl
 
--- the characters passed: `i` is behind them, and the whole string is they and the string from `i` on
-pub record Passed (s : List ℕ) (from end i : ℕ) (cs : List ℕ) : Type 0 where
-  pub long : i ≡ from + length cs
-  pub whole : text_at s from end ≡ prefixed cs (text_at s i end)
+-- the characters passed: there are `n`, and the whole string is they and the string behind them
+pub record Passed (s : List ℕ) (from end n : ℕ) (cs : List ℕ) : Type 0 where
+  pub long : length cs ≡ n
+  pub whole : text_at s from end ≡ prefixed cs (text_at s (from + n) end)
 
-passed_none : (s : List ℕ) (from end : ℕ) → Passed s from end from []
-passed_none s from end = record { long = omega arith; whole = go (text_at s from end) }
+passed_none : (s : List ℕ) (from end : ℕ) → Passed s from end 0 []
+passed_none s from end = record { long = refl; whole = rw (add-zero from) (go (text_at s from end)) }
   where
     go : (t : Text) → t ≡ prefixed [] t
     go (ended cs) = refl
     go unended = refl
 
-module _ {s : List ℕ} {from end i : ℕ} {cs : List ℕ} (p : Passed s from end i cs) where
-  passed-more : i < min (length s) end → (get_or s i 0 ≡ 0 → ⊥) → Passed s from end (i + 1) (cs ++ get_or s i 0 ∷ [])
-  passed-more h z = record {
-    long = omega (arith, p.long, length-append cs (get_or s i 0 ∷ []));
-    whole = p.whole ∙ ap (prefixed cs) (text-more s end i h z) ∙ prefixed-onto cs (get_or s i 0) (text_at s (i + 1) end);
-  }
+module _ {s : List ℕ} {from end n : ℕ} {cs : List ℕ} (p : Passed s from end n cs) where
+  module _ (h : from + n < min (length s) end) {c : ℕ} (e : c ≡ get_or s (from + n) 0) where
+    passed-more : (c ≡ 0 → ⊥) → Passed s from end (n + 1) (cs ++ c ∷ [])
+    passed-more z =
+        let next : from + n + 1 ≡ from + (n + 1) = omega arith in
+        record {
+          long = omega (arith, p.long, length-append cs (c ∷ []));
+          whole =
+              p.whole
+              ∙ ap (prefixed cs) (text-more s end (from + n) h (λ q. z (e ∙ q)) ∙ rw (e, next))
+              ∙ prefixed-onto cs c (text_at s (from + (n + 1)) end);
+        }
 
-  text-whole : i < min (length s) end → get_or s i 0 ≡ 0 → text_at s from end ≡ ended cs
-  text-whole h z = p.whole ∙ ap (prefixed cs) (text-empty s end i h z) ∙ ap ended (append-nil cs)
+    text-whole : c ≡ 0 → text_at s from end ≡ ended cs
+    text-whole z = p.whole ∙ ap (prefixed cs) (text-empty s end (from + n) h (sym e ∙ z)) ∙ ap ended (append-nil cs)
+
+    good-here : (good : Text → Bool) → c ≡ 0 → good (ended cs) ≡ true → answer n ≡ read_name good (text_at s from end)
+    good-here good z g = rw (text-whole z, g, read_name) (ap answer (sym p.long))
+
+    bad-here : (good : Text → Bool) → c ≡ 0 → good (ended cs) ≡ false → refuse 0 7 ≡ read_name good (text_at s from end)
+    bad-here good z g = rw (text-whole z, g, read_name)
 
   -- no string that begins with the characters passed is good
   never : (good : Text → Bool) → ((ds : List ℕ) → good (ended (cs ++ ds)) ≡ false) → refuse 0 7 ≡ read_name good (text_at s from end)
-  never good h = rw p.whole (go (text_at s i end))
+  never good h = rw p.whole (go (text_at s (from + n) end))
     where
       go : (t : Text) → refuse 0 7 ≡ read_name good (prefixed cs t)
       go (ended ds) = rw (h ds)
       go unended = refl
 
-  good-here : (good : Text → Bool) → i < min (length s) end → get_or s i 0 ≡ 0 → good (ended cs) ≡ true → answer (i - from) ≡ read_name good (text_at s from end)
-  good-here good h z g = rw (text-whole h z, g, read_name) (ap answer (omega (arith, p.long)))
-
-  bad-here : (good : Text → Bool) → i < min (length s) end → get_or s i 0 ≡ 0 → good (ended cs) ≡ false → refuse 0 7 ≡ read_name good (text_at s from end)
-  bad-here good h z g = rw (text-whole h z, g, read_name)
-
   -- a search that went past the block, or past `most` characters, where no longer string is good
   past : (good : Text → Bool) (most : ℕ) → ((ds : List ℕ) → most < length ds → good (ended ds) ≡ false)
-      → min (min (length s) end) (from + most + 1) ≤ i → refuse 0 7 ≡ read_name good (text_at s from end)
-  past good most f h = go (leb (min (length s) end) i) refl
+      → min (min (length s) end) (from + (most + 1)) ≤ from + n → refuse 0 7 ≡ read_name good (text_at s from end)
+  past good most f h = go (leb (min (length s) end) (from + n)) refl
     where
-      go : (t : Bool) → leb (min (length s) end) i ≡ t → refuse 0 7 ≡ read_name good (text_at s from end)
-      go true e = rw (p.whole, text-none s end i (leb-true (min (length s) end) i e))
+      go : (t : Bool) → leb (min (length s) end) (from + n) ≡ t → refuse 0 7 ≡ read_name good (text_at s from end)
+      go true e = rw (p.whole, text-none s end (from + n) (leb-true (min (length s) end) (from + n) e))
       go false e =
-          never good (λ ds. f (cs ++ ds) (omega (arith, p.long, leb-false (min (length s) end) i e, length-append cs ds)))
+          never good (λ ds. f (cs ++ ds) (omega (arith, p.long, leb-false (min (length s) end) (from + n) e, length-append cs ds)))
+
+-- a string that begins behind its block is none
+pub no_name : (good : Text → Bool) (s : List ℕ) (from end : ℕ) → min end (length s) < from → refuse 0 7 ≡ read_name good (text_at s from end)
+no_name good s from end h = rw (text-none s end from (omega arith))
 
 -- runs of characters
 every_append : (p : ℕ → Bool) (cs ds : List ℕ) → every p (cs ++ ds) ≡ both (every p cs) (every p ds)
@@ -201,15 +213,15 @@ never-fresh [] ds h = name-first (at_sign ∷ ds) refl
 never-fresh (b ∷ bs) ds h = never-second (b ∷ bs) ds (last-sign (b ∷ bs) h)
 
 -- a node name's characters passed: all are good, `split` says whether one is `@`, and `fresh` whether there is none, or the last is `@`
-pub record NodePassed (s : List ℕ) (from end : ℕ) (split fresh : Bool) (i : ℕ) : Type 0 where
+pub record NodePassed (s : List ℕ) (from end : ℕ) (split fresh : Bool) (n : ℕ) : Type 0 where
   pub characters : List ℕ
-  pub passed : Passed s from end i characters
+  pub passed : Passed s from end n characters
   pub all : every node_or_sign characters ≡ true
   pub signs : at_signs characters ≡ one_if split
   pub first : first_is_plain characters ≡ true
   pub last : ends_plain characters ≡ not fresh
 
-pub node-none : (s : List ℕ) (from end : ℕ) → NodePassed s from end false true from
+pub node-none : (s : List ℕ) (from end : ℕ) → NodePassed s from end false true 0
 unfolding every at_signs first_is_plain last_is_plain
 node-none s from end = record { characters = []; passed = passed_none s from end; all = refl; signs = refl; first = refl; last = refl }
 
@@ -221,79 +233,76 @@ sign-no-node : is_node_character at_sign ≡ false
 unfolding is_node_character
 sign-no-node = refl
 
-module _ {s : List ℕ} {from end : ℕ} {split fresh : Bool} {i : ℕ} (r : NodePassed s from end split fresh i) where
-  pub node-past : min (min (length s) end) (from + most_node_name + 1) ≤ i → refuse 0 7 ≡ node_name_at s from end
+module _ {s : List ℕ} {from end : ℕ} {split fresh : Bool} {n : ℕ} (r : NodePassed s from end split fresh n) where
+  pub node-past : min (min (length s) end) (from + (most_node_name + 1)) ≤ from + n → refuse 0 7 ≡ node_name_at s from end
   unfolding node_name_at
   node-past h = past r.passed is_node_name most_node_name name-long h
 
-  module _ (h : i < min (length s) end) where
-    pub node-more : is_node_character (get_or s i 0) ≡ true → NodePassed s from end split false (i + 1)
+  module _ (h : from + n < min (length s) end) {c : ℕ} (e : c ≡ get_or s (from + n) 0) where
+    pub node-more : is_node_character c ≡ true → NodePassed s from end split false (n + 1)
     node-more k =
-        let c = get_or s i 0 in
         let plain : eqb c at_sign ≡ false = ne_eqb c at_sign (differs is_node_character k sign-no-node) in
         record {
           characters = r.characters ++ c ∷ [];
-          passed = passed-more r.passed h (differs is_node_character k zero-no-node);
+          passed = passed-more r.passed h e (differs is_node_character k zero-no-node);
           all = every_more r.characters c node_or_sign r.all (rw k);
           signs = signs-more r.characters c ∙ rw plain (omega (arith, r.signs));
           first = first_more r.characters c r.first plain;
           last = ends_more r.characters c ∙ rw plain;
         }
 
-    pub node-sign : fresh ≡ false → get_or s i 0 ≡ at_sign → split ≡ false → NodePassed s from end true true (i + 1)
-    node-sign e k p =
-        let c = get_or s i 0 in
+    pub node-sign : fresh ≡ false → c ≡ at_sign → split ≡ false → NodePassed s from end true true (n + 1)
+    node-sign f k p =
         let sign : eqb c at_sign ≡ true = eq-eqb c at_sign k in
         record {
           characters = r.characters ++ c ∷ [];
-          passed = passed-more r.passed h (λ z. omega arith);
+          passed = passed-more r.passed h e (λ z. omega arith);
           all = every_more r.characters c node_or_sign r.all (rw (k, sign-no-node));
           signs = signs-more r.characters c ∙ rw (sign, r.signs, p);
-          first = first-kept r.characters (c ∷ []) (r.last ∙ rw e) r.first;
+          first = first-kept r.characters (c ∷ []) (r.last ∙ rw f) r.first;
           last = ends_more r.characters c ∙ rw sign;
         }
 
-    pub node-good : fresh ≡ false → i ≤ from + most_node_name → get_or s i 0 ≡ 0 → answer (i - from) ≡ node_name_at s from end
+    pub node-good : fresh ≡ false → n ≤ most_node_name → c ≡ 0 → answer n ≡ node_name_at s from end
     unfolding node_name_at
-    node-good e l z =
-        good-here r.passed is_node_name h z
-        (name-good r.characters (r.last ∙ rw e) (omega (arith, r.passed.long)) r.all (rw r.signs (one-most split)) r.first)
+    node-good f l z =
+        good-here r.passed h e is_node_name z
+        (name-good r.characters (r.last ∙ rw f) (omega (arith, r.passed.long)) r.all (rw r.signs (one-most split)) r.first)
       where
         one-most : (b : Bool) → one_if b ≤ 1
         one-most true = omega arith
         one-most false = omega arith
 
-    pub node-other : (get_or s i 0 ≡ 0 → ⊥) → (get_or s i 0 ≡ at_sign → ⊥) → is_node_character (get_or s i 0) ≡ false → refuse 0 7 ≡ node_name_at s from end
+    pub node-other : (c ≡ 0 → ⊥) → (c ≡ at_sign → ⊥) → is_node_character c ≡ false → refuse 0 7 ≡ node_name_at s from end
     unfolding node_name_at
     node-other z k p =
-        let c = get_or s i 0 in
         let other : node_or_sign c ≡ false = rw (p, ne_eqb c at_sign k) in
-        never (passed-more r.passed h z) is_node_name (λ ds. name-every ((r.characters ++ c ∷ []) ++ ds) (never-every r.characters c node_or_sign other ds))
+        never (passed-more r.passed h e z) is_node_name (λ ds. name-every ((r.characters ++ c ∷ []) ++ ds) (never-every r.characters c node_or_sign other ds))
 
-    pub node-second : get_or s i 0 ≡ at_sign → split ≡ true → refuse 0 7 ≡ node_name_at s from end
+    pub node-second : c ≡ at_sign → split ≡ true → refuse 0 7 ≡ node_name_at s from end
     unfolding node_name_at
     node-second k p =
-        never (passed-more r.passed h (λ z. omega arith)) is_node_name
+        never (passed-more r.passed h e (λ z. omega arith)) is_node_name
         (λ ds. rw k (never-second r.characters ds (rw (r.signs, p) (omega arith))))
 
-    pub node-fresh : fresh ≡ true → is_node_character (get_or s i 0) ≡ false → refuse 0 7 ≡ node_name_at s from end
+    pub node-fresh : fresh ≡ true → is_node_character c ≡ false → refuse 0 7 ≡ node_name_at s from end
     unfolding node_name_at
-    node-fresh e p = go (eqb (get_or s i 0) 0) (eqb (get_or s i 0) at_sign) refl refl
+    node-fresh f p = go (eqb c 0) (eqb c at_sign) refl refl
       where
-        go : (a b : Bool) → eqb (get_or s i 0) 0 ≡ a → eqb (get_or s i 0) at_sign ≡ b → refuse 0 7 ≡ read_name is_node_name (text_at s from end)
-        go true b z k = bad-here r.passed is_node_name h (eqb-true (get_or s i 0) 0 z) (name-end r.characters (r.last ∙ rw e))
+        go : (a b : Bool) → eqb c 0 ≡ a → eqb c at_sign ≡ b → refuse 0 7 ≡ read_name is_node_name (text_at s from end)
+        go true b z k = bad-here r.passed h e is_node_name (eqb-true c 0 z) (name-end r.characters (r.last ∙ rw f))
         go false true z k =
-            never (passed-more r.passed h (eqb-false (get_or s i 0) 0 z)) is_node_name
-            (λ ds. rw (eqb-true (get_or s i 0) at_sign k) (never-fresh r.characters ds (r.last ∙ rw e)))
-        go false false z k = node-other (eqb-false (get_or s i 0) 0 z) (eqb-false (get_or s i 0) at_sign k) p
+            never (passed-more r.passed h e (eqb-false c 0 z)) is_node_name
+            (λ ds. rw (eqb-true c at_sign k) (never-fresh r.characters ds (r.last ∙ rw f)))
+        go false false z k = node-other (eqb-false c 0 z) (eqb-false c at_sign k) p
 
 -- a property name's characters passed: all are good
-pub record PropertyPassed (s : List ℕ) (from end i : ℕ) : Type 0 where
+pub record PropertyPassed (s : List ℕ) (from end n : ℕ) : Type 0 where
   pub characters : List ℕ
-  pub passed : Passed s from end i characters
+  pub passed : Passed s from end n characters
   pub all : every is_property_character characters ≡ true
 
-pub property-none : (s : List ℕ) (from end : ℕ) → PropertyPassed s from end from
+pub property-none : (s : List ℕ) (from end : ℕ) → PropertyPassed s from end 0
 unfolding every
 property-none s from end = record { characters = []; passed = passed_none s from end; all = refl }
 
@@ -301,37 +310,47 @@ zero-no-property : is_property_character 0 ≡ false
 unfolding is_property_character
 zero-no-property = refl
 
-module _ {s : List ℕ} {from end i : ℕ} (r : PropertyPassed s from end i) where
-  pub property-past : min (min (length s) end) (from + most_property_name + 1) ≤ i → refuse 0 7 ≡ property_name_at s from end
+module _ {s : List ℕ} {from end n : ℕ} (r : PropertyPassed s from end n) where
+  pub property-past : min (min (length s) end) (from + (most_property_name + 1)) ≤ from + n → refuse 0 7 ≡ property_name_at s from end
   unfolding property_name_at is_property_name
   property-past h =
       past r.passed is_property_name most_property_name (λ ds. long-false most_property_name ds (every is_property_character ds)) h
 
-  module _ (h : i < min (length s) end) where
-    pub property-more : is_property_character (get_or s i 0) ≡ true → PropertyPassed s from end (i + 1)
+  module _ (h : from + n < min (length s) end) {c : ℕ} (e : c ≡ get_or s (from + n) 0) where
+    pub property-more : is_property_character c ≡ true → PropertyPassed s from end (n + 1)
     property-more k =
         record {
-          characters = r.characters ++ get_or s i 0 ∷ [];
-          passed = passed-more r.passed h (differs is_property_character k zero-no-property);
-          all = every_more r.characters (get_or s i 0) is_property_character r.all k;
+          characters = r.characters ++ c ∷ [];
+          passed = passed-more r.passed h e (differs is_property_character k zero-no-property);
+          all = every_more r.characters c is_property_character r.all k;
         }
 
-    pub property-other : is_property_character (get_or s i 0) ≡ false → (get_or s i 0 ≡ 0 → ⊥) → refuse 0 7 ≡ property_name_at s from end
+    property-other : is_property_character c ≡ false → (c ≡ 0 → ⊥) → refuse 0 7 ≡ property_name_at s from end
     unfolding property_name_at is_property_name
     property-other p z =
-        never (passed-more r.passed h z) is_property_name
-        (λ ds. both_right (length_within most_property_name ((r.characters ++ get_or s i 0 ∷ []) ++ ds)) (never-every r.characters (get_or s i 0) is_property_character p ds))
+        never (passed-more r.passed h e z) is_property_name
+        (λ ds. both_right (length_within most_property_name ((r.characters ++ c ∷ []) ++ ds)) (never-every r.characters c is_property_character p ds))
 
-    pub property-empty : get_or s i 0 ≡ 0 → i ≡ from → refuse 0 7 ≡ property_name_at s from end
+    property-empty : c ≡ 0 → n ≡ 0 → refuse 0 7 ≡ property_name_at s from end
     unfolding property_name_at is_property_name
-    property-empty z e =
-        bad-here r.passed is_property_name h z (rw (lt-leb 1 (length r.characters) (omega (arith, r.passed.long))))
+    property-empty z k =
+        bad-here r.passed h e is_property_name z (rw (lt-leb 1 (length r.characters) (omega (arith, r.passed.long))))
 
-    pub property-good : get_or s i 0 ≡ 0 → (i ≡ from → ⊥) → i ≤ from + most_property_name → answer (i - from) ≡ property_name_at s from end
+    property-good : c ≡ 0 → 0 < n → n ≤ most_property_name → answer n ≡ property_name_at s from end
     unfolding property_name_at is_property_name
-    property-good z e l =
-        good-here r.passed is_property_name h z
+    property-good z k l =
+        good-here r.passed h e is_property_name z
         (rw (le-leb 1 (length r.characters) (omega (arith, r.passed.long)), le-leb (length r.characters) most_property_name (omega (arith, r.passed.long))) r.all)
+
+    -- at the first character that no property name has, the name ends, or there is none
+    pub property-stops : is_property_character c ≡ false → n ≤ most_property_name
+        → name_outcome (then_some (eqb c 0 && ltb 0 n) n) ≡ property_name_at s from end
+    property-stops p l = go (eqb c 0) (ltb 0 n) refl refl
+      where
+        go : (a b : Bool) → eqb c 0 ≡ a → ltb 0 n ≡ b → name_outcome (then_some (a && b) n) ≡ property_name_at s from end
+        go true true z k = property-good (eqb-true c 0 z) (ltb-true 0 n k) l
+        go true false z k = property-empty (eqb-true c 0 z) (omega (arith, ltb-false 0 n k))
+        go false b z k = property-other p (eqb-false c 0 z)
 
 -- the root's name
 module _ (s : List ℕ) (from end : ℕ) where

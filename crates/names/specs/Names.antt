@@ -1,10 +1,8 @@
 -- Node names and property names (document 01, "The walk").
-use Rattle.std.specs.Prelude.{ℕ, suc, Bool, true, false, not, cond, List, [], ◌∷◌, eqb, leb, length}
+use Rattle.std.specs.Prelude.{ℕ, suc, Bool, true, false, not, cond, Option, Some, None, List, [], ◌∷◌, eqb, leb, length}
 use Rattle.refusal.specs.Refusal.{Outcome, answer, refuse}
 use Rattle.characters.specs.Characters.{is_node_character, is_property_character}
 use Rattle.strings.specs.Strings.{Text, ended, unended, same_bytes, text_at}
-use Rattle.names.specs.declared.NameRead.{NameRead}
-use Rattle.names.specs.declared.NameRead.TheVariants.{Good, Bad}
 
 -- "A node name other than the root's has 1 to 63 characters"
 abbrev pub most_node_name : ℕ
@@ -77,9 +75,9 @@ same_text (ended cs) unended = false
 same_text unended t = false
 
 -- how a name that was read ends: with the number of its characters, or with 7, "name not as below"
-abbrev pub name_outcome : NameRead → Outcome ℕ
-name_outcome (Good n) = answer n
-name_outcome Bad = refuse 0 7
+abbrev pub name_outcome : Option ℕ → Outcome ℕ
+name_outcome (Some n) = answer n
+name_outcome None = refuse 0 7
 
 -- the outcome of reading a text as a name
 abbrev pub read_name : (Text → Bool) → Text → Outcome ℕ
