@@ -11,7 +11,7 @@ use lib.Pow.{pow-add}
 use native.Mathlib.Decide.{dec_lt}
 use Rattle.refusal.proofs.Checks.{tests}
 use Rattle.cells.specs.Buffer.{written}
-use Rattle.cells.proofs.Buffer.{written_none, written-before, length-written}
+use Rattle.cells.proofs.Buffer.{written_none, written-before}
 use Rattle.cells.proofs.Writing.{refused-leaves, passed-writes}
 use Rattle.characters.specs.Characters.{hex_digit}
 use Rattle.unit.specs.Hex.{digits_of, hex_text, digit_count, write_checks, after_hex}
@@ -123,9 +123,6 @@ module _ {number at : ℕ} {old buffer : List ℕ} {rest place : ℕ} (g : Writi
       some : (m : ℕ) → 0 < length (left m) → left m ≡ hex_text m
       some zero q = absurd (omega arith)
       some (suc m) q = refl
-
-  pub writing-length : length buffer ≡ length old
-  writing-length = ap length g.stands ∙ length-written old place g.back g.room
 
   pub writing-all : place ≤ at → buffer ≡ written old at (hex_text number)
   writing-all h =

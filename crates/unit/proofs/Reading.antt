@@ -11,7 +11,7 @@ use lib.Pow.{pow-add, pow_mono}
 use lib.Seq.{drop-cons}
 use Rattle.refusal.specs.Refusal.{Outcome, answer, refuse}
 use Rattle.refusal.proofs.Checks.{stops, passes, tests, either_way}
-use Rattle.characters.specs.declared.HexValue.TheVariants.{Digit, None}
+use Rattle.std.specs.Prelude.{Some, None}
 use Rattle.characters.specs.Characters.{hex_value}
 use Rattle.characters.proofs.Table.{hex-below}
 use Rattle.unit.specs.Hex.{HexNumber, some_number, no_number, hex_after, hex_number, most_digits, hex_checks, read_number, read_hex}
@@ -22,9 +22,6 @@ pub record Read (text : List ℕ) (value i : ℕ) : Type 0 where
   pub few : length text ≤ most_digits
   pub small : value < 2 ^ (4 * i)
   pub same : hex_after value (drop i text) ≡ hex_number text
-
-pub read_none : (text : List ℕ) → length text ≤ most_digits → Read text 0 0
-read_none text h = record { within = omega arith; few = h; small = omega arith; same = refl }
 
 module _ {text : List ℕ} {value i : ℕ} (g : Read text value i) where
   pub read-bad : i < length text → hex_value (get_or text i 0) ≡ None → hex_number text ≡ no_number
@@ -37,7 +34,7 @@ module _ {text : List ℕ} {value i : ℕ} (g : Read text value i) where
       let e : 4 * i ≤ 60 = omega (arith, g.few) in
       omega (arith, g.small, pow_mono e)
 
-  pub read_more : {d w : ℕ} → i < length text → hex_value (get_or text i 0) ≡ Digit d → w ≡ d → Read text (value * 16 + w) (i + 1)
+  pub read_more : {d w : ℕ} → i < length text → hex_value (get_or text i 0) ≡ Some d → w ≡ d → Read text (value * 16 + w) (i + 1)
   unfolding hex_after
   read_more {d} {w} h e q =
       let n : 4 * (i + 1) ≡ 4 * i + 4 = omega arith in

@@ -10,8 +10,7 @@ use lib.ListN.{length, get_or}
 use lib.Pow.{pow-add}
 use Rattle.refusal.specs.Refusal.{Outcome, answer, refuse}
 use Rattle.refusal.proofs.Checks.{Passes, answered, passes}
-use Rattle.characters.specs.declared.HexValue.{HexValue}
-use Rattle.characters.specs.declared.HexValue.TheVariants.{Digit, None}
+use Rattle.std.specs.Prelude.{Option, Some, None}
 use Rattle.characters.specs.Characters.{lower_digits, hex_value, hex_digit}
 use Rattle.characters.proofs.Table.{hex-below, hex-of-digit}
 use Rattle.unit.specs.Hex.{HexNumber, some_number, no_number, hex_after, hex_number, hex_checks, read_number, read_hex, hex_text, digit_count}
@@ -20,16 +19,16 @@ use Rattle.unit.proofs.Digits.{left, left-text, text-last, count-last, count-lea
 use Rattle.unit.proofs.Reading.{read-number}
 
 -- one digit more at the end
-number-snoc : (high : ℕ) (cs : List ℕ) (c : ℕ) {n v : ℕ} → hex_after high cs ≡ some_number n → hex_value c ≡ Digit v
+number-snoc : (high : ℕ) (cs : List ℕ) (c : ℕ) {n v : ℕ} → hex_after high cs ≡ some_number n → hex_value c ≡ Some v
     → hex_after high (cs ++ c ∷ []) ≡ some_number (n * 16 + v)
 unfolding hex_after
 number-snoc high [] c {n} {v} e k = let q : high ≡ n = cc in rw (k, hex_after) (ap (λ (x : ℕ). some_number (x * 16 + v)) q)
 number-snoc high (x ∷ cs) c {n} {v} e k = go (hex_value x) e (λ u f. number-snoc (high * 16 + u) cs c f k)
   where
-    go : (y : HexValue) → (elim y as (λ _. HexNumber) [ Digit u ↦ hex_after (high * 16 + u) cs | None ↦ no_number ]) ≡ some_number n
+    go : (y : Option ℕ) → (elim y as (λ _. HexNumber) [ Some u ↦ hex_after (high * 16 + u) cs | None ↦ no_number ]) ≡ some_number n
         → ((u : ℕ) → hex_after (high * 16 + u) cs ≡ some_number n → hex_after (high * 16 + u) (cs ++ c ∷ []) ≡ some_number (n * 16 + v))
-        → (elim y as (λ _. HexNumber) [ Digit u ↦ hex_after (high * 16 + u) (cs ++ c ∷ []) | None ↦ no_number ]) ≡ some_number (n * 16 + v)
-    go (Digit u) e f = f u e
+        → (elim y as (λ _. HexNumber) [ Some u ↦ hex_after (high * 16 + u) (cs ++ c ∷ []) | None ↦ no_number ]) ≡ some_number (n * 16 + v)
+    go (Some u) e f = f u e
     go None e f = let z : ◌≡◌ {A = ℕ} 0 1 = cc in absurd (omega arith)
 
 lower-snoc : {cs : List ℕ} (n : ℕ) → LowerCase cs → LowerCase (cs ++ hex_digit n ∷ [])
@@ -87,9 +86,9 @@ unfolding hex_after
 below high [] {n} e = let q : high ≡ n = cc in omega arith
 below high (c ∷ cs) {n} e = go (hex_value c) refl e (λ u f. below (high * 16 + u) cs f)
   where
-    go : (y : HexValue) → hex_value c ≡ y → (elim y as (λ _. HexNumber) [ Digit u ↦ hex_after (high * 16 + u) cs | None ↦ no_number ]) ≡ some_number n
+    go : (y : Option ℕ) → hex_value c ≡ y → (elim y as (λ _. HexNumber) [ Some u ↦ hex_after (high * 16 + u) cs | None ↦ no_number ]) ≡ some_number n
         → ((u : ℕ) → hex_after (high * 16 + u) cs ≡ some_number n → n < (high * 16 + u + 1) * 2 ^ (4 * length cs)) → n < (high + 1) * 2 ^ (4 * suc (length cs))
-    go (Digit u) q e f =
+    go (Some u) q e f =
         let k : u < 16 = hex-below c q in
         let s : 4 * suc (length cs) ≡ 4 + 4 * length cs = omega arith in
         let m : (u + 1) * 2 ^ (4 * length cs) ≤ 16 * 2 ^ (4 * length cs) = mul-le-mul_right (2 ^ (4 * length cs)) (omega arith) in

@@ -1,6 +1,5 @@
 -- Numbers as hexadecimal text, over the largest number allowed (document 01, "CPU properties and unit text" and refusal 20).
-use Rattle.std.specs.Prelude.{ℕ, zero, suc, ◌+◌, ◌*◌, ◌/◌, true, false, List, [], ◌∷◌, ◌++◌, leb, ltb, length}
-use Rattle.characters.specs.declared.HexValue.TheVariants.{Digit, None}
+use Rattle.std.specs.Prelude.{ℕ, zero, suc, ◌+◌, ◌*◌, ◌/◌, true, false, List, [], ◌∷◌, ◌++◌, leb, ltb, length, Some, None}
 use Rattle.characters.specs.Characters.{hex_value, hex_digit}
 use Rattle.cells.specs.Buffer.{after_writing}
 use Rattle.refusal.specs.Refusal.{Outcome, answer, refuse}
@@ -18,7 +17,7 @@ pub data HexNumber : Type 0 where
 -- a run of digits that follows the digits of `high`
 unfoldable pub hex_after : ℕ → List ℕ → HexNumber
 hex_after high [] = some_number high
-hex_after high (c ∷ cs) = elim (hex_value c) [ Digit v ↦ hex_after (high * 16 + v) cs | None ↦ no_number ]
+hex_after high (c ∷ cs) = elim (hex_value c) [ Some v ↦ hex_after (high * 16 + v) cs | None ↦ no_number ]
 
 abbrev pub hex_number : List ℕ → HexNumber
 hex_number text = hex_after 0 text

@@ -1,10 +1,8 @@
 -- Unit text of a CPU (document 01, "CPU properties and unit text"), and the outcomes of this crate's answers.
-use Rattle.std.specs.Prelude.{ℕ, ◌^◌, ◌-◌, List, length, take}
-use Rattle.refusal.specs.Refusal.{Outcome, number_of}
+use Rattle.std.specs.Prelude.{ℕ, ◌^◌, ◌-◌, List, length, take, Result}
+use Rattle.refusal.specs.declared.Refusal.{Refusal}
+use Rattle.refusal.specs.Refusal.{Outcome, outcome_of}
 use Rattle.unit.specs.Hex.{read_hex, write_hex, after_hex}
-use Rattle.unit.specs.declared.HexRead.{HexRead}
-use Rattle.unit.specs.declared.UnitRead.{UnitRead}
-use Rattle.unit.specs.declared.TextWritten.{TextWritten}
 
 -- "A unit text is hex, either case, leading zeros allowed, below 2^32 (20 before 12)"
 unfoldable pub read_unit : List ℕ → Outcome ℕ
@@ -22,11 +20,11 @@ abbrev pub text_written : ℕ → List ℕ → List ℕ
 text_written n old = take (write_unit n (length old)).value (after_unit n old)
 
 -- what each answer says: the number of document 01, and the value
-abbrev pub hex_outcome : HexRead → Outcome ℕ
-hex_outcome r = record { number = number_of r.refusal; value = r.value }
+abbrev pub hex_outcome : Result ℕ Refusal → Outcome ℕ
+hex_outcome = outcome_of (λ n. n) 0
 
-abbrev pub unit_outcome : UnitRead → Outcome ℕ
-unit_outcome r = record { number = number_of r.refusal; value = r.number }
+abbrev pub unit_outcome : Result ℕ Refusal → Outcome ℕ
+unit_outcome = outcome_of (λ n. n) 0
 
-abbrev pub length_outcome : TextWritten → Outcome ℕ
-length_outcome r = record { number = number_of r.refusal; value = r.length }
+abbrev pub length_outcome : Result ℕ Refusal → Outcome ℕ
+length_outcome = outcome_of (λ n. n) 0

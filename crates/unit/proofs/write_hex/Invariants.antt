@@ -9,6 +9,3 @@ use Rattle.unit.proofs.write_hex.Given as goal
 abbrev pub invariant-loop-place : goal.invariant-loop-place
 invariant-loop-place l =
     (l.count ≡ digit_count l.number) × (l.at + l.count ≤ length l.initial.buffer) × Writing l.number l.at l.initial.buffer l.buffer l.rest l.place
-
-abbrev pub decreases-loop-place : goal.decreases-loop-place
-decreases-loop-place l = l.place

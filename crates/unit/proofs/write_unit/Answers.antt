@@ -4,4 +4,4 @@ use Rattle.unit.proofs.write_unit.Goals as goal
 
 pub returns : goal.returns
 unfolding write_unit after_unit
-returns c = c.write_hex.ensures
+returns c = rw c.from.ensures at c.write_hex.ensures
