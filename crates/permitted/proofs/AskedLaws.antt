@@ -59,11 +59,6 @@ module _ (r : Record) (level : ℕ) where
       go true q = q
       go false q = let k : ◌≡◌ {A = ℕ} 14 0 = not-formed q ∙ sym e ∙ z in absurd (omega arith)
 
--- a refusal with an empty set
-pub refused-empty : (n : ℕ) {words : List ℕ} → words ≡ set_of no_members
-    → ◌≡◌ {A = Outcome Seen} (refuse (record { set = words; counts = replicate most_features 0 }) n) (refuse nothing_seen n)
-refused-empty n e = ap (λ (l : List ℕ). refuse (record { set = l; counts = replicate most_features 0 }) n) e
-
 -- a record that is examined feature by feature, at a level no higher than the highest: the first i of them fit, and are seen
 pub record SeenTo (r : Record) (level : ℕ) (g : Grants) (i : ℕ) (set counts : List ℕ) : Type 0 where
   pub within : i ≤ r.count
@@ -77,21 +72,22 @@ module _ (r : Record) (level : ℕ) (g : Grants) where
   fits_in i = fits_at (feature_at r i) r.slots r.count i
 
   -- a refusal of the record, or of the level
-  not-well : well_formed r ≡ false → {o : Outcome Seen} → o ≡ refuse nothing_seen 14 → o ≡ examined r level g
+  not-well : well_formed r ≡ false → refuse nothing_seen 14 ≡ examined r level g
   unfolding examined
-  not-well w e = e ∙ asked-refused r level nothing_seen _ (not-formed r level w) (λ z. absurd (omega arith))
+  not-well w = asked-refused r level nothing_seen _ (not-formed r level w) (λ z. absurd (omega arith))
 
-  pub many-seen : most_features < r.count → {o : Outcome Seen} → o ≡ refuse nothing_seen 14 → o ≡ examined r level g
-  many-seen h e = not-well (sym (formed-many r h)) e
+  pub many-seen : most_features < r.count → refuse nothing_seen 14 ≡ examined r level g
+  many-seen h = not-well (sym (formed-many r h))
 
   pub seen_none : {set counts : List ℕ} → r.count ≤ most_features → set ≡ set_of no_members → counts ≡ replicate most_features 0 → SeenTo r level g 0 set counts
   unfolding every
   seen_none h e q = record { within = omega arith; few = h; fit = refl; permitted = none_yet (permitted_at r (min level hypervisor) g) e; counted = q }
 
   module _ (i : ℕ) {set counts : List ℕ} (s : SeenTo r level g i set counts) where
-    pub seen-not : i < r.count → {b : Bool} → b ≡ fits_in i → b ≡ false → {o : Outcome Seen} → o ≡ refuse nothing_seen 14 → o ≡ examined r level g
-    seen-not h e q z = not-well (sym (formed-not r i h (omega (arith, s.few)) e q)) z
+    pub seen-not : i < r.count → {b : Bool} → b ≡ fits_in i → b ≡ false → refuse nothing_seen 14 ≡ examined r level g
+    seen-not h e q = not-well (sym (formed-not r i h (omega (arith, s.few)) e q))
 
+    -- with a position, where it is permitted
     pub seen_next : i < r.count → {b on : Bool} {m : ℕ} {new : List ℕ} → b ≡ fits_in i → b ≡ true → m ≡ dependency_count (feature_at r i)
         → {known : ℕ} → known ≡ min level hypervisor → on ≡ is_permitted (feature_at r i) known g i → new ≡ cond on (with_member set i) set
         → SeenTo r level g (i + 1) new (store counts i m)
@@ -113,9 +109,9 @@ module _ (r : Record) (level : ℕ) (g : Grants) where
       all_fit : well_formed r ≡ true
       all_fit = sym (formed-all r (omega (arith, s.within)) s.few s.fit)
 
-      pub seen-level : hypervisor < level → {o : Outcome Seen} → o ≡ refuse nothing_seen 15 → o ≡ examined r level g
+      pub seen-level : hypervisor < level → refuse nothing_seen 15 ≡ examined r level g
       unfolding examined
-      seen-level h e = e ∙ asked-refused r level nothing_seen _ (not-a-level r level all_fit h) (λ z. absurd (omega arith))
+      seen-level h = asked-refused r level nothing_seen _ (not-a-level r level all_fit h) (λ z. absurd (omega arith))
 
       pub seen_all : level ≤ hypervisor → ◌≡◌ {A = Outcome Seen} (answer (record { set = set; counts = counts })) (examined r level g)
       unfolding examined dependency_counts

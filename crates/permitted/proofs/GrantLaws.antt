@@ -1,5 +1,6 @@
 -- What decides the permitted set: own_code bits below the count, and neither `isa` nor any other cell that the rule does not name.
 -- Own code permits at every level what is usable there. Assumes nothing.
+use Rattle.std.specs.Prelude.{Option, None, Some}
 use Prim.Native.Nat.{ℕ, ◌<◌, min}
 use mathlib.Core.Path.{◌≡◌, refl, ap, ◌∙◌}
 use mathlib.Core.Bool.{Bool, true, ◌&&◌, ◌||◌}
@@ -11,8 +12,6 @@ use Rattle.record.specs.Cells.{cell}
 use Rattle.record.specs.Record.{most_features, feature_at}
 use Rattle.record.specs.declared.Feature.{Feature}
 use Rattle.record.specs.declared.Record.{Record}
-use Rattle.record.specs.declared.Cell.{Cell}
-use Rattle.record.specs.declared.Cell.TheVariants.{Absent, Given}
 use Rattle.record.specs.declared.Property.TheVariants.{UsablePrivilege, HvSupport, OsSupport, HfscrBitNr, FscrBitNr}
 use Rattle.permitted.specs.Permitted.{is_usable, by_register, is_supported, is_supported_below, is_permitted, permitted_at, permitted_set, system, hypervisor}
 use Rattle.permitted.specs.declared.Grants.{Grants}
@@ -66,11 +65,11 @@ permits-same r s level g e a =
     ∙ ap (λ (n : ℕ). collect set_words (min n most_features) (permitted_at s level g)) e
 
 -- own code supports at any level, whatever the cells say
-own-supports : (support number : Cell) (mask : ℕ) → is_supported support number mask true ≡ true
-own-supports Absent number mask = refl
-own-supports (Given s) number mask = or-true (by_register s number mask)
+own-supports : (support number : Option ℕ) (mask : ℕ) → is_supported support number mask true ≡ true
+own-supports None number mask = refl
+own-supports (Some s) number mask = or-true (by_register s number mask)
 
-own_below : (upper level : ℕ) (support number : Cell) (mask : ℕ) (own : Bool) → own ≡ true → is_supported_below upper level support number mask own ≡ true
+own_below : (upper level : ℕ) (support number : Option ℕ) (mask : ℕ) (own : Bool) → own ≡ true → is_supported_below upper level support number mask own ≡ true
 unfolding is_supported_below
 own_below upper level support number mask own e =
     ap (λ (b : Bool). leb upper level || b) (ap (is_supported support number mask) e ∙ own-supports support number mask) ∙ or-true (leb upper level)

@@ -1,11 +1,12 @@
 -- Laws of permitted features, one for each return of the code. Assumes nothing.
+use Rattle.std.specs.Prelude.{Option, None, Some}
 use Prim.Native.Nat.{ℕ, ◌+◌, ◌≤◌, ◌<◌, min}
 use mathlib.Core.Path.{◌≡◌, refl, sym, ap, ◌∙◌}
 use mathlib.Core.Bool.{Bool, true, false, ◌&&◌, ◌||◌, cond}
 use mathlib.Core.List.{List}
 use native.Mathlib.Numerals.{add-one}
 use native.Mathlib.Omega.{arith}
-use borrow.Author.Tests.{le-leb, lt-leb, leb-true, not-true}
+use borrow.Author.Tests.{leb-true, not-true}
 use lib.Dec.{leb}
 use Rattle.positions.proofs.BelowLaws.{no_way}
 use Rattle.positions.specs.Bits.{bit}
@@ -20,31 +21,12 @@ use Rattle.form.proofs.BitLaws.{fits-hypervisor, fits-system}
 use Rattle.record.specs.declared.Record.{Record}
 use Rattle.record.specs.declared.Feature.{Feature}
 use Rattle.record.specs.declared.Property.TheVariants.{UsablePrivilege, HvSupport, OsSupport, HfscrBitNr, FscrBitNr}
-use Rattle.record.specs.declared.Cell.{Cell}
-use Rattle.record.specs.declared.Cell.TheVariants.{Absent, Given}
 use Rattle.permitted.specs.Permitted.{system, hypervisor, is_usable, by_register, is_supported, is_supported_below, is_permitted, permitted_at, permitted_set}
 use Rattle.permitted.specs.declared.Grants.{Grants}
 
 pub or-true : (b : Bool) → b || true ≡ true
 or-true true = refl
 or-true false = refl
-
--- the support that is given: bit 0 of it and the register's bit, and else own code
-module _ (support : Cell) (s number mask : ℕ) (own : Bool) (given : support ≡ Given s) where
-  pub bit-clear : bit s 0 ≡ false → own ≡ is_supported support (Given number) mask own
-  unfolding by_register
-  bit-clear e = rw (given, e)
-
-  pub register-permits : bit s 0 ≡ true → bit mask number ≡ true → true ≡ is_supported support (Given number) mask own
-  unfolding by_register
-  register-permits e q = rw (given, e, q)
-
-  pub own-code-decides : bit s 0 ≡ true → bit mask number ≡ false → own ≡ is_supported support (Given number) mask own
-  unfolding by_register
-  own-code-decides e q = rw (given, e, q)
-
-pub low-bit : {support : Cell} {s : ℕ} → support ≡ Given s → bit s 0 ≡ true → low_bit support ≡ true
-low-bit e q = rw (e, q)
 
 -- a number that fits is in range where it is required, and its being given makes no difference
 number_fits : (highest : ℕ) (required given : Bool) (n : ℕ) → bit_fits highest required (when_given given n) ≡ true → required ≡ true → n ≤ highest
@@ -53,55 +35,45 @@ number_fits highest true false n e q = no_way false e refl
 number_fits highest false false n e q = no_way false q refl
 
 register-same : (highest s : ℕ) (given : Bool) (n mask : ℕ) → bit_fits highest (bit s 0) (when_given given n) ≡ true
-    → by_register s (Given n) mask ≡ by_register s (when_given given n) mask
+    → by_register s (Some n) mask ≡ by_register s (when_given given n) mask
 unfolding by_register
 register-same highest s true n mask e = refl
 register-same highest s false n mask e = rw (not-true (bit s 0) e)
 
-supported-same : (highest : ℕ) (support : Cell) (given : Bool) (n mask : ℕ) (own : Bool) → bit_fits highest (low_bit support) (when_given given n) ≡ true
-    → is_supported support (Given n) mask own ≡ is_supported support (when_given given n) mask own
-supported-same highest Absent given n mask own e = refl
-supported-same highest (Given s) given n mask own e = ap (λ (b : Bool). b || own) (register-same highest s given n mask e)
-
--- support is asked below the level that gives it
-module _ (upper level : ℕ) (support number : Cell) (mask : ℕ) (own : Bool) where
-  pub not-asked : upper ≤ level → true ≡ is_supported_below upper level support number mask own
-  unfolding is_supported_below
-  not-asked h = rw (le-leb upper level h)
-
-  pub asked-below : level < upper → is_supported support number mask own ≡ is_supported_below upper level support number mask own
-  unfolding is_supported_below
-  asked-below h = rw (lt-leb upper level h)
+supported-same : (highest : ℕ) (support : Option ℕ) (given : Bool) (n mask : ℕ) (own : Bool) → bit_fits highest (low_bit support) (when_given given n) ≡ true
+    → is_supported support (Some n) mask own ≡ is_supported support (when_given given n) mask own
+supported-same highest None given n mask own e = refl
+supported-same highest (Some s) given n mask own e = ap (λ (b : Bool). b || own) (register-same highest s given n mask e)
 
 -- the tests of a feature, by way of the code's locals
-pub usable-by : (level : ℕ) {u : Bool} {a x : Cell} → u ≡ is_usable a level → a ≡ x → u ≡ is_usable x level
-usable-by level e p = e ∙ ap (λ (y : Cell). is_usable y level) p
+pub usable-by : (level : ℕ) {u : Bool} {a x : Option ℕ} → u ≡ is_usable a level → a ≡ x → u ≡ is_usable x level
+usable-by level e p = e ∙ ap (λ (y : Option ℕ). is_usable y level) p
 
 -- the two registers' numbers of a feature whose bit numbers fit
 module _ (f : Feature) (fits : bits_fit f ≡ true) where
-  pub hv-number : {a : Cell} → a ≡ cell f HvSupport → low_bit a ≡ true → f.hfscr_bit_nr < 64
+  pub hv-number : {a : Option ℕ} → a ≡ cell f HvSupport → low_bit a ≡ true → f.hfscr_bit_nr < 64
   unfolding cell held bit_of
   hv-number e q = let h = number_fits highest_hfscr_bit _ (bit f.given 4) f.hfscr_bit_nr (fits-hypervisor f fits) (ap low_bit (sym e) ∙ q) in omega arith
 
-  pub os-number : {a : Cell} → a ≡ cell f OsSupport → low_bit a ≡ true → f.fscr_bit_nr < 64
+  pub os-number : {a : Option ℕ} → a ≡ cell f OsSupport → low_bit a ≡ true → f.fscr_bit_nr < 64
   unfolding cell held bit_of
   os-number e q = let h = number_fits highest_fscr_bit _ (bit f.given 5) f.fscr_bit_nr (fits-system f fits) (ap low_bit (sym e) ∙ q) in omega arith
 
-  module _ (upper level mask : ℕ) (own : Bool) {u : Bool} {a : Cell} where
-    pub hv-supported : u ≡ is_supported_below upper level a (Given f.hfscr_bit_nr) mask own → a ≡ cell f HvSupport
+  module _ (upper level mask : ℕ) (own : Bool) {u : Bool} {a : Option ℕ} where
+    pub hv-supported : u ≡ is_supported_below upper level a (Some f.hfscr_bit_nr) mask own → a ≡ cell f HvSupport
         → u ≡ is_supported_below upper level (cell f HvSupport) (cell f HfscrBitNr) mask own
     unfolding is_supported_below cell held bit_of
     hv-supported q e =
         q
-        ∙ ap (λ (x : Cell). leb upper level || is_supported x (Given f.hfscr_bit_nr) mask own) e
+        ∙ ap (λ (x : Option ℕ). leb upper level || is_supported x (Some f.hfscr_bit_nr) mask own) e
         ∙ ap (λ (b : Bool). leb upper level || b) (supported-same highest_hfscr_bit (cell f HvSupport) (bit f.given 4) f.hfscr_bit_nr mask own (fits-hypervisor f fits))
 
-    pub os-supported : u ≡ is_supported_below upper level a (Given f.fscr_bit_nr) mask own → a ≡ cell f OsSupport
+    pub os-supported : u ≡ is_supported_below upper level a (Some f.fscr_bit_nr) mask own → a ≡ cell f OsSupport
         → u ≡ is_supported_below upper level (cell f OsSupport) (cell f FscrBitNr) mask own
     unfolding is_supported_below cell held bit_of
     os-supported q e =
         q
-        ∙ ap (λ (x : Cell). leb upper level || is_supported x (Given f.fscr_bit_nr) mask own) e
+        ∙ ap (λ (x : Option ℕ). leb upper level || is_supported x (Some f.fscr_bit_nr) mask own) e
         ∙ ap (λ (b : Bool). leb upper level || b) (supported-same highest_fscr_bit (cell f OsSupport) (bit f.given 5) f.fscr_bit_nr mask own (fits-system f fits))
 
 -- the first test that fails decides; the last one where the others hold
@@ -115,21 +87,20 @@ module _ (f : Feature) (level : ℕ) (g : Grants) (i : ℕ) where
   abbrev by_system : Bool
   by_system = is_supported_below system level (cell f OsSupport) (cell f FscrBitNr) g.fscr (has g.system.words i)
 
-  pub not-usable : by_privilege ≡ false → false ≡ is_permitted f level g i
-  unfolding is_permitted
-  not-usable p = sym (ap (λ (b : Bool). b && by_hypervisor && by_system) p)
+  -- the first two tests, of which the second is made where the first holds
+  pub both-tests : {u b : Bool} → u ≡ by_privilege → u ≡ true → b ≡ by_hypervisor → b ≡ by_privilege && by_hypervisor
+  both-tests p q h = h ∙ sym (ap (λ (x : Bool). x && by_hypervisor) (sym p ∙ q))
 
-  pub not-supported : by_privilege ≡ true → by_hypervisor ≡ false → false ≡ is_permitted f level g i
-  unfolding is_permitted
-  not-supported p h = sym (λ i. p i && h i && by_system)
+  pub first-fails : {u b : Bool} → u ≡ by_privilege → u ≡ false → b ≡ u → b ≡ by_privilege && by_hypervisor
+  first-fails p q e = e ∙ q ∙ sym (ap (λ (x : Bool). x && by_hypervisor) (sym p ∙ q))
 
-  pub system-decides : {b : Bool} → by_privilege ≡ true → by_hypervisor ≡ true → b ≡ by_system → b ≡ is_permitted f level g i
+  pub system-decides : {b s : Bool} → b ≡ by_privilege && by_hypervisor → b ≡ true → s ≡ by_system → s ≡ is_permitted f level g i
   unfolding is_permitted
-  system-decides p h s = s ∙ sym (λ i. p i && h i && by_system)
+  system-decides e q s = s ∙ sym (ap (λ (x : Bool). x && by_system) (sym e ∙ q))
 
--- a set with a position, where it is to have it
-pub with-on : (s : List ℕ) (i : ℕ) {t : List ℕ} {on : Bool} → on ≡ true → t ≡ with_member s i → t ≡ cond on (with_member s i) s
-with-on s i e q = q ∙ sym (ap (λ (b : Bool). cond b (with_member s i) s) e)
+  pub tests-fail : {b : Bool} → b ≡ by_privilege && by_hypervisor → b ≡ false → b ≡ is_permitted f level g i
+  unfolding is_permitted
+  tests-fail e q = q ∙ sym (ap (λ (x : Bool). x && by_system) (sym e ∙ q))
 
 -- a set built a position at a time, by a test
 module _ (p : ℕ → Bool) where

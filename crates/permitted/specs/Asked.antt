@@ -1,15 +1,16 @@
 -- What is asked of a record, a level and grants, and how the call for the permitted set ends (document 01, numbers 14 and 15).
-use Rattle.std.specs.Prelude.{ℕ, min, List, [], ◌∷◌, leb, replicate}
-use Rattle.refusal.specs.Refusal.{Outcome, answer, refuse, number_of}
+use Rattle.std.specs.Prelude.{ℕ, min, List, [], ◌∷◌, leb, replicate, Result}
+use Rattle.refusal.specs.Refusal.{Outcome, answer, refuse, outcome_of}
 use Rattle.refusal.specs.Checks.{Check, check, first_fault}
+use Rattle.refusal.specs.declared.Refusal.{Refusal}
 use Rattle.cells.specs.Rows.{each, padded}
 use Rattle.positions.specs.Sets.{set_of, no_members}
+use Rattle.positions.specs.declared.Set.{Set}
 use Rattle.record.specs.declared.Record.{Record}
 use Rattle.record.specs.Record.{most_features, feature_at}
 use Rattle.record.specs.Cells.{dependency_count}
 use Rattle.form.specs.WellFormed.{well_formed}
 use Rattle.permitted.specs.declared.Grants.{Grants}
-use Rattle.permitted.specs.declared.PermittedFeatures.{PermittedFeatures}
 use Rattle.permitted.specs.declared.Examined.{Examined}
 use Rattle.permitted.specs.Permitted.{hypervisor, permitted_set}
 
@@ -33,12 +34,15 @@ unfoldable pub examined : Record → ℕ → Grants → Outcome Seen
 examined r level g =
     first_fault (refuse nothing_seen) (asked_checks r level) (answer (record { set = permitted_set r level g; counts = dependency_counts r }))
 
-abbrev pub examined_outcome : Examined → Outcome Seen
-examined_outcome x = record { number = number_of x.refusal; value = record { set = x.set.words; counts = x.counts } }
+abbrev pub seen_of : Examined → Seen
+seen_of x = record { set = x.set.words; counts = x.counts }
+
+abbrev pub examined_outcome : Result Examined Refusal → Outcome Seen
+examined_outcome x = outcome_of seen_of nothing_seen x
 
 -- the set of permitted positions; "beside it, zeros"
 unfoldable pub permitted : Record → ℕ → Grants → Outcome (List ℕ)
 permitted r level g = first_fault (refuse (set_of no_members)) (asked_checks r level) (answer (permitted_set r level g))
 
-abbrev pub permitted_outcome : PermittedFeatures → Outcome (List ℕ)
-permitted_outcome p = record { number = number_of p.refusal; value = p.set.words }
+abbrev pub permitted_outcome : Result Set Refusal → Outcome (List ℕ)
+permitted_outcome p = outcome_of (λ (s : Set). s.words) (set_of no_members) p

@@ -1,12 +1,10 @@
 -- Which features are permitted at a level under grants (document 01, "Permitted and enabled").
-use Rattle.std.specs.Prelude.{ℕ, min, Bool, true, false, ◌&&◌, ◌||◌, List, leb}
+use Rattle.std.specs.Prelude.{ℕ, min, Bool, true, false, ◌&&◌, ◌||◌, List, leb, Option, None, Some}
 use Rattle.positions.specs.Bits.{bit}
 use Rattle.positions.specs.Sets.{set_words, has, collect}
 use Rattle.record.specs.declared.Feature.{Feature}
 use Rattle.record.specs.declared.Record.{Record}
 use Rattle.record.specs.declared.Property.TheVariants.{UsablePrivilege, HvSupport, OsSupport, HfscrBitNr, FscrBitNr}
-use Rattle.record.specs.declared.Cell.{Cell}
-use Rattle.record.specs.declared.Cell.TheVariants.{Absent, Given}
 use Rattle.record.specs.Record.{most_features, feature_at}
 use Rattle.record.specs.Cells.{cell}
 use Rattle.permitted.specs.declared.Grants.{Grants}
@@ -19,27 +17,27 @@ abbrev pub hypervisor : ℕ
 hypervisor = 2
 
 -- "the level's bit in `usable-privilege` is set (bit 0 user, 1 system, 2 hypervisor)"
-abbrev pub is_usable : Cell → ℕ → Bool
-is_usable Absent level = false
-is_usable (Given privilege) level = bit privilege level
+abbrev pub is_usable : Option ℕ → ℕ → Bool
+is_usable None level = false
+is_usable (Some privilege) level = bit privilege level
 
 -- the bit of a number that is given is granted
-abbrev pub is_granted : ℕ → Cell → Bool
-is_granted mask Absent = false
-is_granted mask (Given number) = bit mask number
+abbrev pub is_granted : ℕ → Option ℕ → Bool
+is_granted mask None = false
+is_granted mask (Some number) = bit mask number
 
 -- "its bit 0 is set and its HFSCR bit granted"
-unfoldable pub by_register : ℕ → Cell → ℕ → Bool
+unfoldable pub by_register : ℕ → Option ℕ → ℕ → Bool
 by_register support number mask = bit support 0 && is_granted mask number
 
 -- "`hv-support` is absent, or its bit 0 is set and its HFSCR bit granted, or the hypervisor supports the feature by its own code";
 -- "the same of `os-support`, FSCR and the system"
-abbrev pub is_supported : Cell → Cell → ℕ → Bool → Bool
-is_supported Absent number mask own_code = true
-is_supported (Given support) number mask own_code = by_register support number mask || own_code
+abbrev pub is_supported : Option ℕ → Option ℕ → ℕ → Bool → Bool
+is_supported None number mask own_code = true
+is_supported (Some support) number mask own_code = by_register support number mask || own_code
 
 -- asked below the level that gives the support: "below hypervisor" of the hypervisor, "at user" of the system
-unfoldable pub is_supported_below : ℕ → ℕ → Cell → Cell → ℕ → Bool → Bool
+unfoldable pub is_supported_below : ℕ → ℕ → Option ℕ → Option ℕ → ℕ → Bool → Bool
 is_supported_below upper level support number mask own_code = leb upper level || is_supported support number mask own_code
 
 -- "A feature is permitted at a level when" all of these hold

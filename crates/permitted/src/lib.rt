@@ -1,20 +1,18 @@
 // Which features are permitted at a level under grants.
 #![tactic(auto)]
 
-ghost use Rattle.std.specs.Prelude.{◌≡◌, true, cond, ◌≤◌, ◌<◌, min};
-ghost use Rattle.refusal.specs.Refusal.{number_of, refuse};
-ghost use Rattle.positions.specs.Bits.{bit};
-ghost use Rattle.positions.specs.Sets.{has, with_member};
+ghost use Rattle.std.specs.Prelude.{◌≡◌, true, ◌<◌};
+ghost use Rattle.positions.specs.Sets.{has};
 ghost use Rattle.record.specs.Cells.{low_bit};
 ghost use Rattle.form.specs.WellFormed.{bits_fit};
-ghost use Rattle.record.specs.declared.Cell.TheVariants.{Given};
-ghost use Rattle.permitted.specs.Permitted.{hypervisor, is_usable, is_supported, is_supported_below, is_permitted};
-ghost use Rattle.permitted.specs.Asked.{nothing_seen, examined, examined_outcome, permitted as permitted_of, permitted_outcome};
+ghost use Rattle.permitted.specs.Permitted.{is_usable, is_supported, is_supported_below, is_permitted};
+ghost use Rattle.permitted.specs.Asked.{examined, examined_outcome, permitted as permitted_of, permitted_outcome};
 
 use positions::Set;
-use record::{Cell, Feature, MOST_FEATURES, Property, Record};
+use record::{Feature, MOST_FEATURES, Property, Record};
 use refusal::Refusal;
 
+// A level stays a number: the public functions take any, and one that is none is refused only after the record (15 after 14).
 pub const USER: u32 = 0;
 
 pub const SYSTEM: u32 = 1;
@@ -32,179 +30,111 @@ pub struct Grants {
     pub fscr: u64,
 }
 
-// A refusal, or the set of permitted positions; the empty set beside a refusal.
-#[derive(Clone, Copy)]
-pub struct PermittedFeatures {
-    pub refusal: Refusal,
-    pub set: Set,
-}
-
-// A refusal, or the set of permitted positions and the number of dependencies of each feature; zeros beside a refusal, and zeros from the
-// count on.
+// The set of permitted positions, and the number of dependencies of each feature, zero from the count on.
 #[derive(Clone, Copy)]
 pub struct Examined {
-    pub refusal: Refusal,
     pub set: Set,
     pub counts: [u8; MOST_FEATURES],
 }
 
-// Whether a bit of a word is set.
-fn bit_of(word: u64, number: u32) -> bool
-    requires { number < 64 }
-    ensures { result ≡ bit word number }
+fn is_usable(privilege: Option<u32>, level: u32) -> bool
+    ensures { result ≡ is_usable privilege level }
 {
-    (word >> number) % 2 != 0
-}
-
-fn is_usable(c: Cell, level: u32) -> bool
-    requires { level ≤ hypervisor }
-    ensures { result ≡ is_usable c level }
-{
-    match c {
-        Cell::Absent => false,
-        Cell::Given(privilege) => bit_of(privilege as u64, level),
-    }
+    privilege.is_some_and(|levels| positions::bit_set(u64::from(levels), level))
 }
 
 // Whether a level's support permits the feature at position `i`: absent, or granted, or by the level's own code. The number of the
-// register's bit is looked at only where bit 0 of the support is set.
-fn is_supported(support: Cell, number: u32, mask: u64, own: Set, i: usize) -> bool
+// register's bit is looked at only where bit 0 of the support is set; it is in range there, and not tested again.
+#[tactic(auto, using(positions::proofs::BitLaws::bit_test), unfolding(crate::specs::Permitted::by_register))]
+fn is_supported(support: Option<u32>, number: u32, mask: u64, own: Set, i: usize) -> bool
     requires { low_bit support ≡ true → number < 64 }
-    ensures { result ≡ is_supported support (Given number) mask (has own.words i) }
+    ensures { result ≡ is_supported support (Some number) mask (has own.words i) }
 {
     match support {
-        Cell::Absent => true,
-        Cell::Given(s) => {
-            if !positions::bit_set(s as u64, 0) {
-                return positions::member(own, i);
-            }
-            if bit_of(mask, number) {
-                return true;
-            }
-            positions::member(own, i)
+        None => true,
+        Some(bits) => {
+            (positions::bit_set(u64::from(bits), 0) && (mask >> number) % 2 != 0)
+                || positions::member(own, i)
         }
     }
 }
 
 // The same, asked only below the level that gives the support.
+#[tactic(auto, unfolding(crate::specs::Permitted::is_supported_below))]
 fn is_supported_below(
     upper: u32,
     level: u32,
-    support: Cell,
+    support: Option<u32>,
     number: u32,
     mask: u64,
     own: Set,
     i: usize,
 ) -> bool
     requires { low_bit support ≡ true → number < 64 }
-    ensures { result ≡ is_supported_below upper level support (Given number) mask (has own.words i) }
+    ensures { result ≡ is_supported_below upper level support (Some number) mask (has own.words i) }
 {
-    if upper <= level {
-        return true;
-    }
-    is_supported(support, number, mask, own, i)
+    upper <= level || is_supported(support, number, mask, own, i)
 }
 
 // Whether the feature at position `i` is permitted, if its bit numbers fit: they are then given where they are looked at.
+#[tactic(auto, unfolding(crate::specs::Permitted::is_permitted))]
 fn is_permitted(f: Feature, level: u32, g: Grants, i: usize) -> bool
-    requires { (level ≤ hypervisor) × (bits_fit f ≡ true) }
+    requires { bits_fit f ≡ true }
     ensures { result ≡ is_permitted f level g i }
 {
-    if !is_usable(record::cell_of(f, Property::UsablePrivilege), level) {
-        return false;
-    }
-    if !is_supported_below(
-        HYPERVISOR,
-        level,
-        record::cell_of(f, Property::HvSupport),
-        f.hfscr_bit_nr,
-        g.hfscr,
-        g.hypervisor,
-        i,
-    ) {
-        return false;
-    }
-    is_supported_below(
-        SYSTEM,
-        level,
-        record::cell_of(f, Property::OsSupport),
-        f.fscr_bit_nr,
-        g.fscr,
-        g.system,
-        i,
-    )
-}
-
-// The level, or the highest where it is none.
-fn known_level(level: u32) -> u32
-    ensures { result ≡ min level hypervisor }
-{
-    if level < HYPERVISOR {
-        level
-    } else {
-        HYPERVISOR
-    }
-}
-
-// A set with a position, where it is to have it.
-fn with_permitted(s: Set, on: bool, i: usize) -> Set
-    ensures { result.words ≡ cond on (with_member s.words i) s.words }
-{
-    if on {
-        return positions::insert(s, i);
-    }
-    s
-}
-
-fn refused(refusal: Refusal) -> Examined
-    ensures { examined_outcome result ≡ refuse nothing_seen (number_of refusal) }
-{
-    Examined {
-        refusal,
-        set: positions::empty(),
-        counts: [0; MOST_FEATURES],
-    }
+    is_usable(record::cell_of(f, Property::UsablePrivilege), level)
+        && is_supported_below(
+            HYPERVISOR,
+            level,
+            record::cell_of(f, Property::HvSupport),
+            f.hfscr_bit_nr,
+            g.hfscr,
+            g.hypervisor,
+            i,
+        )
+        && is_supported_below(
+            SYSTEM,
+            level,
+            record::cell_of(f, Property::OsSupport),
+            f.fscr_bit_nr,
+            g.fscr,
+            g.system,
+            i,
+        )
 }
 
 // What every call asks of a record, a level and grants: 14, then 15; then the permitted set, and how many dependencies each feature has.
 // The record is passed over once: two tests a feature, at a known level.
-pub fn examine(r: Record, level: u32, g: Grants) -> Examined
+pub fn examine(r: Record, level: u32, g: Grants) -> Result<Examined, Refusal>
     ensures { examined_outcome result ≡ examined r level g }
 {
     let count = r.count;
     let n = count as usize;
     if MOST_FEATURES < n {
-        return refused(Refusal::RecordForm);
+        return Err(Refusal::RecordForm);
     }
-    let asked = known_level(level);
+    let known = level.min(HYPERVISOR);
     let mut set = positions::empty();
     let mut counts: [u8; MOST_FEATURES] = [0; MOST_FEATURES];
-    let mut i: usize = 0;
-    while i < n {
+    for i in 0..n {
         let f = r.features[i];
         if !form::feature_fits(f, &r.slots, count, i) {
-            return refused(Refusal::RecordForm);
+            return Err(Refusal::RecordForm);
         }
         counts[i] = record::dependency_count(f) as u8;
-        set = with_permitted(set, is_permitted(f, asked, g, i), i);
-        i += 1;
+        if is_permitted(f, known, g, i) {
+            set = positions::insert(set, i);
+        }
     }
     if HYPERVISOR < level {
-        return refused(Refusal::Level);
+        return Err(Refusal::Level);
     }
-    Examined {
-        refusal: Refusal::None,
-        set,
-        counts,
-    }
+    Ok(Examined { set, counts })
 }
 
 // The permitted features of a record at a level under grants.
-pub fn permitted(r: Record, level: u32, g: Grants) -> PermittedFeatures
+pub fn permitted(r: Record, level: u32, g: Grants) -> Result<Set, Refusal>
     ensures { permitted_outcome result ≡ permitted_of r level g }
 {
-    let x = examine(r, level, g);
-    let refusal = x.refusal;
-    let set = x.set;
-    PermittedFeatures { refusal, set }
+    Ok(examine(r, level, g)?.set)
 }
