@@ -1,1 +1,2 @@
 mod LowestLaws
+mod JoinLaws

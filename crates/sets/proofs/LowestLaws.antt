@@ -9,7 +9,7 @@ use native.Mathlib.Omega.{arith}
 use lib.Bits.{bit_and, and_le_l}
 use lib.Count.{count_trailing_zeros, under, trailing_le}
 use lib.ListN.{get_or}
-use Rattle.positions.specs.declared.Position.TheVariants.{Nowhere, At}
+use Rattle.std.specs.Prelude.{None, Some}
 use Rattle.positions.specs.Below.{first_that}
 use Rattle.positions.specs.Bits.{not_zero, bit}
 use Rattle.positions.specs.Sets.{set_words, room, member_outside}
@@ -57,8 +57,8 @@ pub record NoneOutside (a b : List ℕ) (w : ℕ) : Type 0 where
 pub none-begins : (a b : List ℕ) → NoneOutside a b 0
 none-begins a b = record { within = omega arith; none = λ j h. absurd (omega arith) }
 
-pub lowest-none : {a b : List ℕ} {w : ℕ} → NoneOutside a b w → set_words ≤ w → Nowhere ≡ first_that room (member_outside a b)
-lowest-none {a} {b} n h = first-is room (member_outside a b) {r = Nowhere} (λ j l. n.none j (omega arith))
+pub lowest-none : {a b : List ℕ} {w : ℕ} → NoneOutside a b w → set_words ≤ w → None ≡ first_that room (member_outside a b)
+lowest-none {a} {b} n h = first-is room (member_outside a b) {r = None} (λ j l. n.none j (omega arith))
 
 module _ (a b : List ℕ) (gb : WordList set_words b) where
   outside-bit : (v s : ℕ) → s < 64 → member_outside a b (64 * v + s) ≡ bit (word_outside a b v) s
@@ -79,11 +79,11 @@ module _ (a b : List ℕ) (gb : WordList set_words b) where
       go j l (no m) = outside-at w j (omega arith) (omega arith) ∙ ap (λ (x : ℕ). bit x (j - 64 * w)) e ∙ bit-none (j - 64 * w)
 
   pub lowest-found : {w : ℕ} → WordList set_words a → NoneOutside a b w → w < set_words → (word_outside a b w ≡ 0 → ⊥)
-      → At (64 * w + count_trailing_zeros 64 (word_outside a b w)) ≡ first_that room (member_outside a b)
+      → Some (64 * w + count_trailing_zeros 64 (word_outside a b w)) ≡ first_that room (member_outside a b)
   lowest-found {w} ga n h ne =
       let x = word_outside a b w in
       let lt = low-lt x (lt_of_le_of_lt (and_le_l (get_or a w 0) (2 ^ 64 - 1 - get_or b w 0)) (ga.small w)) ne in
-      first-is room (member_outside a b) {r = At (64 * w + count_trailing_zeros 64 x)}
+      first-is room (member_outside a b) {r = Some (64 * w + count_trailing_zeros 64 x)}
       (omega arith, outside-bit w (count_trailing_zeros 64 x) lt ∙ low-is 64 x lt, λ j l. before j l (dec_lt j (64 * w)))
     where
       before : (j : ℕ) → j < 64 * w + count_trailing_zeros 64 (word_outside a b w) → Dec (j < 64 * w) → member_outside a b j ≡ false

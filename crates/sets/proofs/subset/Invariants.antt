@@ -1,5 +1,5 @@
 -- The invariant of `sets::subset`.
-use Prim.Native.Nat.{ℕ, ◌-◌, ◌≤◌, ◌<◌}
+use Prim.Native.Nat.{ℕ, ◌≤◌, ◌<◌}
 use mathlib.Core.Path.{◌≡◌}
 use lib.Bits.{bit_and}
 use lib.ListN.{get_or}
@@ -7,7 +7,4 @@ use Rattle.positions.specs.Sets.{set_words}
 use Rattle.sets.proofs.subset.Given as goal
 
 abbrev pub invariant-loop-w : goal.invariant-loop-w
-invariant-loop-w l = (l.w ≤ set_words) × ((v : ℕ) → v < l.w → bit_and (get_or l.a.words v 0) (get_or l.b.words v 0) ≡ get_or l.a.words v 0)
-
-abbrev pub decreases-loop-w : goal.decreases-loop-w
-decreases-loop-w l = set_words - l.w
+invariant-loop-w l = (l.w ≤ set_words) × ((v : ℕ) → v < l.w → bit_and (get_or l.word-items v 0) (get_or l.b.words v 0) ≡ get_or l.word-items v 0)
