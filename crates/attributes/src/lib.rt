@@ -125,6 +125,7 @@ fn type_zero(value: &[u8]) -> Result<&[u8], Refusal>
     if value.is_empty() {
         return Err(Refusal::PropertyForm);
     }
+    // How many descriptors have type 0, and the bytes of the last: an Option would not tell one from more.
     let mut found: usize = 0;
     let mut bytes: &[u8] = &[];
     let mut at = 0;

@@ -148,6 +148,7 @@ pub fn segment_page_sizes(value: &[u8]) -> Result<SegmentTable, Refusal>
     let mut descriptors = [NO_DESCRIPTOR; 8];
     let mut at = 0;
     let mut i = 0;
+    // `at` moves the loop, by what each descriptor says; `i` counts past the array, since a ninth descriptor is refused and not left out.
     while at < value.len() {
         check_descriptor(value, i, at)?;
         let descriptor = descriptor_at(value, at);
