@@ -7,13 +7,15 @@ use native.Mathlib.Omega.{arith}
 use native.Mathlib.Decide.{dec_le}
 use borrow.Author.Tests.{lt-ltb, le-ltb}
 use Rattle.refusal.specs.Refusal.{answer, refuse}
+use Rattle.std.specs.Prelude.{Option, Some, None, Ok, Err}
+use Rattle.std.specs.Option.{ok_or}
 use Rattle.strings.specs.Strings.{Text, text_at}
 use Rattle.strings.proofs.Strings.{text-none}
 use Rattle.names.specs.Names.{either, same_text, is_property_name, property_name_at}
 use Rattle.names.proofs.NameLaws.{property-name-good, property-name-bad}
 use Rattle.tokens.specs.declared.Cursor.{Cursor}
 use Rattle.tokens.specs.declared.Step.{Step}
-use Rattle.tokens.specs.declared.Step.TheVariants.{BeginNode, EndNode, Property, Nop, End, Fault}
+use Rattle.tokens.specs.declared.Step.TheVariants.{Property, Nop}
 use Rattle.tokens.specs.Steps.{pick, step_at}
 use Rattle.tokens.specs.Tokens.{Token, begin_node, end_node, property, nop, end, fault, tokens}
 use Rattle.tokens.proofs.TokenList.{tokens-step, follow, view, Is, begins, ends, holds, skips, stops, cut, unknown, none, property-moves, nop-moves}
@@ -68,21 +70,13 @@ module _ (s : List ℕ) (stop : ℕ) (names : ℕ → Text) (t : ℕ) (n : Text)
         let k : p < t = omega arith in
         rw (tokens-step s stop names at e, lt-ltb p t k)
 
-    pub before-begin : {p : ℕ} {c : Cursor} → step_at s stop at ≡ BeginNode p c → given_before t n (tokens s stop names at) ≡ false
+    -- any other token: nothing is looked at from it on
+    pub before-none : (x : Step) → step_at s stop at ≡ x → ((p v l o : ℕ) (c : Cursor) → x ≡ Property p v l o c → ⊥) → ((p : ℕ) (c : Cursor) → x ≡ Nop p c → ⊥)
+        → given_before t n (tokens s stop names at) ≡ false
     unfolding given_before
-    before-begin e = rw (tokens-step s stop names at e)
-
-    pub before-end-node : {p : ℕ} {c : Cursor} → step_at s stop at ≡ EndNode p c → given_before t n (tokens s stop names at) ≡ false
-    unfolding given_before
-    before-end-node e = rw (tokens-step s stop names at e)
-
-    pub before-end : {p : ℕ} → step_at s stop at ≡ End p → given_before t n (tokens s stop names at) ≡ false
-    unfolding given_before
-    before-end e = rw (tokens-step s stop names at e)
-
-    pub before-fault : {p : ℕ} → step_at s stop at ≡ Fault p → given_before t n (tokens s stop names at) ≡ false
-    unfolding given_before
-    before-fault e = rw (tokens-step s stop names at e)
+    before-none (Property p v l o c) e f g = absurd (f p v l o c refl)
+    before-none (Nop p c) e f g = absurd (g p c refl)
+    before-none x e f g = rw (tokens-step s stop names at e)
 
 -- a property whose name is compared at its place
 module _ (s : List ℕ) (stop : ℕ) (bytes : List ℕ) (from limit t : ℕ) (n : Text) (at : ℕ) (h : at < t) where
@@ -190,3 +184,12 @@ module _ (s : List ℕ) (stop : ℕ) (names : ℕ → Text) (first at : ℕ) (n 
 
   pub among-before : {t v l o : ℕ} {c : Cursor} → step_at s stop at ≡ Property t v l o c → given_before t n (tokens s stop names first) ≡ among n (property_names read)
   among-before e = ap (λ (x : ℕ). given_before x n (tokens s stop names first)) (property-moves s stop at e).here ∙ among-given
+
+-- what `ok_or` made an error of was none, and the error is the one given
+pub not-given : {A E : Type 0} (o : Option A) (given e : E) → Err e ≡ ok_or o given → (o ≡ None) × (e ≡ given)
+not-given None given e h = (refl, cc)
+not-given (Some a) given e h = cc
+
+pub was-given : {A E : Type 0} (o : Option A) (given : E) (a : A) → Ok a ≡ ok_or o given → o ≡ Some a
+was-given None given a h = cc
+was-given (Some b) given a h = cc

@@ -1,14 +1,12 @@
 -- Laws of marks. Assumes nothing.
 use mathlib.Core.Path.{◌≡◌, refl, sym, ap, ◌∙◌}
-use mathlib.Core.Bool.{Bool, true, false, not}
+use mathlib.Core.Bool.{Bool, true, false}
 use mathlib.Core.List.{List, [], ◌∷◌, ◌++◌}
-use Prim.Native.Nat.{ℕ, ◌+◌, ◌-◌, ◌*◌, ◌/◌, ◌%◌, ◌<◌, ◌≤◌, min}
+use Prim.Native.Nat.{ℕ, ◌+◌, ◌-◌, ◌*◌, ◌/◌, ◌%◌, ◌≤◌, min}
 use native.Mathlib.Omega.{arith}
 use native.Mathlib.Decide.{dec_le, ℕ_discrete}
-use borrow.Author.Tests.{le-leb, lt-leb}
-use lib.Dec.{eqb}
-use lib.ListN.{length, get_or, set, take, drop, length-set}
-use lib.Seq.{set_out, get_or-set_same, get_or-set_other}
+use lib.ListN.{length, get_or, get_or-eq_default, set, take, drop, length-set}
+use lib.Seq.{get_or-set_same, get_or-set_other}
 use Rattle.refusal.specs.Refusal.{answer, refuse}
 use Rattle.strings.specs.Strings.{Text, ended, unended, text_at}
 use Rattle.strings.proofs.Strings.{text-taken, same_true}
@@ -32,23 +30,6 @@ pub mark-some : (s : List ℕ) {a b c d : ℕ} → a ≡ get_or s 0 0 → b ≡ 
 unfolding mark_from
 mark-some s e f g h = rw (e, f, g, h)
 
--- a mark past the end, and one within
-module _ (marks : List ℕ) (mark : ℕ) where
-  pub past-set : length marks ≤ mark → true ≡ is_set marks mark
-  unfolding is_set
-  past-set h = rw (le-leb (length marks) mark h)
-
-  pub past_same : length marks ≤ mark → marks ≡ set marks mark 1
-  past_same h = sym (set_out marks mark 1 h)
-
-  pub within-set : mark < length marks → not (eqb (get_or marks mark 0) 0) ≡ is_set marks mark
-  unfolding is_set
-  within-set h = rw (lt-leb (length marks) mark h)
-
--- 9 where a name is given
-pub given-number : {r given x : Bool} → r ≡ given → r ≡ x → ◌≡◌ {A = ℕ} (pick x 9 0) (pick given 9 0)
-given-number g k = ap (λ (b : Bool). pick {A = ℕ} b 9 0) (sym k ∙ g)
-
 -- a good name: its mark is that of its bytes, and it is looked back for where that mark is set
 module _ (bytes : List ℕ) (from limit offset : ℕ) {place : ℕ} (q : place ≡ min limit (from + offset)) {n : ℕ} (e : property_name_at bytes place limit ≡ answer n) where
   pub mark-read : {mark : ℕ} → mark ≡ mark_from (take (place + n - place) (drop place bytes)) → mark ≡ mark_of (name_at bytes from limit offset)
@@ -58,8 +39,8 @@ module _ (bytes : List ℕ) (from limit offset : ℕ) {place : ℕ} (q : place �
       let l : place + n - place ≡ length g.characters = omega (arith, g.long) in
       k ∙ ap (λ (m : ℕ). mark_from (take m (drop place bytes))) l ∙ ap mark_from (text-taken bytes place limit g.characters g.text) ∙ ap mark_of (sym g.text ∙ here bytes from limit offset q)
 
-  module _ (marks : List ℕ) {mark : ℕ} (m : mark ≡ mark_of (name_at bytes from limit offset)) where
-    pub mark-put : {later : List ℕ} → later ≡ set marks mark 1 → later ≡ with_mark (name_at bytes from limit offset) marks
+  module _ (marks : List Bool) {mark : ℕ} (m : mark ≡ mark_of (name_at bytes from limit offset)) where
+    pub mark-put : {later : List Bool} → later ≡ set marks mark true → later ≡ with_mark (name_at bytes from limit offset) marks
     unfolding with_mark
     mark-put k =
         let g = property-name-good bytes place limit n e in
@@ -80,7 +61,7 @@ module _ (bytes : List ℕ) (from limit offset : ℕ) {place : ℕ} (q : place �
           rw z (sym (good-fault bytes from limit offset q false e))
 
 -- any other leaves the marks as they are
-pub mark-none : (bytes : List ℕ) (from limit offset : ℕ) {place : ℕ} → place ≡ min limit (from + offset) → (marks : List ℕ) → property_name_at bytes place limit ≡ refuse 0 7
+pub mark-none : (bytes : List ℕ) (from limit offset : ℕ) {place : ℕ} → place ≡ min limit (from + offset) → (marks : List Bool) → property_name_at bytes place limit ≡ refuse 0 7
     → marks ≡ with_mark (name_at bytes from limit offset) marks
 unfolding with_mark
 mark-none bytes from limit offset {place} q marks e =
@@ -88,29 +69,28 @@ mark-none bytes from limit offset {place} q marks e =
     rw z
 
 -- there are as many marks as before
-pub with-long : (n : Text) (marks : List ℕ) → length (with_mark n marks) ≡ length marks
+pub with-long : (n : Text) (marks : List Bool) → length (with_mark n marks) ≡ length marks
 unfolding with_mark
 with-long n marks = go (is_property_name n)
   where
-    go : (x : Bool) → length (pick x (set marks (mark_of n) 1) marks) ≡ length marks
-    go true = length-set marks (mark_of n) 1
+    go : (x : Bool) → length (pick x (set marks (mark_of n) true) marks) ≡ length marks
+    go true = length-set marks (mark_of n) true
     go false = refl
 
 no_way : true ≡ false → ⊥
-no_way e = let z : ◌≡◌ {A = ℕ} 0 1 = cc in omega arith
+no_way e = cc
 
 -- where a name's mark is still not set, it was not set before, and the name that set one is another
-other-mark : (marks : List ℕ) (m n : ℕ) → is_set (set marks m 1) n ≡ false → (m ≡ n → ⊥) × (is_set marks n ≡ false)
+other-mark : (marks : List Bool) (m n : ℕ) → is_set (set marks m true) n ≡ false → (m ≡ n → ⊥) × (is_set marks n ≡ false)
 unfolding is_set
 other-mark marks m n h = go (ℕ_discrete n m) (dec_le (length marks) n)
   where
-    go : Dec (n ≡ m) → Dec (length marks ≤ n) → (m ≡ n → ⊥) × (is_set marks n ≡ false)
-    go (no e) l = (λ k. e (sym k), rw (length-set marks m 1, get_or-set_other marks m n 1 0 e) at h)
-    go (yes e) (yes l) = let k : length (set marks m 1) ≤ n = rw length-set l in absurd (no_way (rw (le-leb (length (set marks m 1)) n k) at h))
+    go : Dec (n ≡ m) → Dec (length marks ≤ n) → (m ≡ n → ⊥) × (get_or marks n true ≡ false)
+    go (no e) l = (λ k. e (sym k), sym (get_or-set_other marks m n true true e) ∙ h)
+    go (yes e) (yes l) = let k : length (set marks m true) ≤ n = rw length-set l in absurd (no_way (sym (get_or-eq_default (set marks m true) true k) ∙ h))
     go (yes e) (no l) =
-        let k : n < length (set marks m 1) = rw length-set (omega arith) in
-        let z : get_or (set marks m 1) n 0 ≡ 1 = rw e (get_or-set_same marks m 1 0 (omega arith)) in
-        absurd (no_way (rw (lt-leb (length (set marks m 1)) n k, z) at h))
+        let z : get_or (set marks m true) n true ≡ true = rw e (get_or-set_same marks m true true (omega arith)) in
+        absurd (no_way (sym z ∙ h))
 
 same-mark : (m n : Text) → same_text m n ≡ true → mark_of m ≡ mark_of n
 unfolding same_text
@@ -118,7 +98,7 @@ same-mark (ended cs) (ended ds) e = ap (λ (x : List ℕ). mark_of (ended x)) (s
 same-mark (ended cs) unended e = absurd (no_way (sym e))
 same-mark unended n e = absurd (no_way (sym e))
 
-pub other_name : (marks : List ℕ) (m n : Text) → is_property_name m ≡ true → is_set (with_mark m marks) (mark_of n) ≡ false → (is_set marks (mark_of n) ≡ false) × (same_text m n ≡ false)
+pub other_name : (marks : List Bool) (m n : Text) → is_property_name m ≡ true → is_set (with_mark m marks) (mark_of n) ≡ false → (is_set marks (mark_of n) ≡ false) × (same_text m n ≡ false)
 unfolding with_mark
 other_name marks m n p h =
     let o = other-mark marks (mark_of m) (mark_of n) (rw p at h) in

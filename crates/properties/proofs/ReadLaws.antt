@@ -40,18 +40,18 @@ module _ (s : List ℕ) (stop : ℕ) (names : ℕ → Text) (first : ℕ) where
   T = tokens s stop names
 
   -- the tokens read so far are properties and NOPs, those from `at` on decide, and a name whose mark is not set is none of those read
-  pub record ReadTo (at : ℕ) (marks : List ℕ) : Type 0 where
+  pub record ReadTo (at : ℕ) (marks : List Bool) : Type 0 where
     pub read : List Token
     pub split : T first ≡ read ++ T at
     pub plain : Plain at read
     pub marked : (n : Text) → is_set marks (mark_of n) ≡ false → among n (property_names read) ≡ false
     pub same : read_properties stop (property_names read) (T at) ≡ read_properties stop [] (T first)
 
-  pub read-begins : (marks : List ℕ) → ReadTo first marks
+  pub read-begins : (marks : List Bool) → ReadTo first marks
   unfolding property_names among
   read-begins marks = record { read = []; split = refl; plain = tt; marked = λ n h. refl; same = refl }
 
-  module _ {at : ℕ} {marks : List ℕ} (g : ReadTo at marks) where
+  module _ {at : ℕ} {marks : List Bool} (g : ReadTo at marks) where
     more : (t : Token) (next : ℕ) → T at ≡ t ∷ T next → T first ≡ (g.read ++ t ∷ []) ++ T next
     more t next e = g.split ∙ ap (λ (ts : List Token). g.read ++ ts) e ∙ sym (append_assoc g.read (t ∷ []) (T next))
 
@@ -94,11 +94,11 @@ module _ (s : List ℕ) (stop : ℕ) (names : ℕ → Text) (first : ℕ) where
           ∙ property-read stop (property_names g.read) t (names o) (take l (drop v s)) (T c.at)
           ∙ ap (λ (k : ℕ). or_refused k t (read_properties stop (property_names g.read ++ names o ∷ []) (T c.at))) (sym found)
 
-      pub read-refused : {k : ℕ} → k ≡ number → (k ≡ 0 → ⊥) → refuse_at 0 (fault_at number t) ≡ read_properties stop [] (T first)
-      read-refused q z = go number refl ∙ sym decides
+      pub read-refused : (number ≡ 0 → ⊥) → refuse_at 0 (fault_at number t) ≡ read_properties stop [] (T first)
+      read-refused z = go number refl ∙ sym decides
         where
           go : (n : ℕ) → number ≡ n → refuse_at 0 (fault_at n t) ≡ or_refused n t (read_properties stop (property_names g.read ++ names o ∷ []) (T c.at))
-          go zero w = absurd (z (q ∙ w))
+          go zero w = absurd (z w)
           go (suc n) w = refl
 
       no-fault : (x y : Bool) → ◌≡◌ {A = ℕ} (pick x (pick y 9 0) 7) 0 → (x ≡ true) × (y ≡ false)
@@ -106,13 +106,13 @@ module _ (s : List ℕ) (stop : ℕ) (names : ℕ → Text) (first : ℕ) where
       no-fault true false w = (refl, refl)
       no-fault false y w = absurd (omega arith)
 
-      pub read-property : {k : ℕ} {later : List ℕ} → k ≡ number → k ≡ 0 → later ≡ with_mark (names o) marks → ReadTo c.at later
+      pub read-property : {later : List Bool} → number ≡ 0 → later ≡ with_mark (names o) marks → ReadTo c.at later
       unfolding name_fault
-      read-property q z w =
+      read-property z w =
           let m = property-moves s stop at e in
           let n = names o in
           let x = take l (drop v s) in
-          let good = no-fault (is_property_name n) (among n (property_names g.read)) (sym found ∙ sym q ∙ z) in
+          let good = no-fault (is_property_name n) (among n (property_names g.read)) (sym found ∙ z) in
           rw w
           record {
             read = g.read ++ property t n x ∷ [];
@@ -123,7 +123,7 @@ module _ (s : List ℕ) (stop : ℕ) (names : ℕ → Text) (first : ℕ) where
                 rw names-snoc (not-among a n (property_names g.read) (g.marked a d.0) d.1);
             same =
                 ap (λ (ns : List Text). read_properties stop ns (T c.at)) (names-snoc g.read t n x)
-                ∙ sym (decides ∙ ap (λ (i : ℕ). or_refused i t (read_properties stop (property_names g.read ++ n ∷ []) (T c.at))) (sym q ∙ z));
+                ∙ sym (decides ∙ ap (λ (i : ℕ). or_refused i t (read_properties stop (property_names g.read ++ n ∷ []) (T c.at))) z);
           }
 
     -- any other token: the properties end there

@@ -1,9 +1,9 @@
 -- What the private functions that keep marks answer. A mark is a small number of a name's characters. Equal names have equal marks, so
 -- that a name whose mark is new in its node has not been given there. The promises of the public functions rest on `Properties`, not on
 -- this file.
-use Rattle.std.specs.Prelude.{ℕ, ◌+◌, ◌-◌, ◌*◌, ◌/◌, ◌%◌, Bool, not, List, eqb, leb, length, get_or, set}
+use Rattle.std.specs.Prelude.{ℕ, ◌+◌, ◌-◌, ◌*◌, ◌/◌, ◌%◌, Bool, true, List, length, get_or, set}
 use Rattle.strings.specs.Strings.{Text, ended, unended}
-use Rattle.names.specs.Names.{either, is_property_name}
+use Rattle.names.specs.Names.{is_property_name}
 use Rattle.tokens.specs.Steps.{pick}
 
 -- how many marks there are
@@ -21,9 +21,9 @@ mark_of (ended cs) = mark_from cs
 mark_of unended = 0
 
 -- a mark is set among marks; one past their end counts as set
-unfoldable pub is_set : List ℕ → ℕ → Bool
-is_set marks mark = either (leb (length marks) mark) (not (eqb (get_or marks mark 0) 0))
+unfoldable pub is_set : List Bool → ℕ → Bool
+is_set marks mark = get_or marks mark true
 
 -- the marks once a property of a name has come: that of a name as it should be is set
-unfoldable pub with_mark : Text → List ℕ → List ℕ
-with_mark n marks = pick (is_property_name n) (set marks (mark_of n) 1) marks
+unfoldable pub with_mark : Text → List Bool → List Bool
+with_mark n marks = pick (is_property_name n) (set marks (mark_of n) true) marks

@@ -1,13 +1,13 @@
 -- The properties of one node or block (document 01, "The walk": "A property name repeated in one node is 9").
-use Rattle.std.specs.Prelude.{ℕ, ◌+◌, Bool, false, not, List, [], ◌∷◌, ◌++◌, ltb}
-use Rattle.refusal.specs.Refusal.{Fault, Placed, placed, refuse_at, number_of}
+use Rattle.std.specs.Prelude.{ℕ, ◌+◌, Bool, false, not, List, [], ◌∷◌, ◌++◌, ltb, Result}
+use Rattle.refusal.specs.Refusal.{Fault, Placed, placed, refuse_at, placed_of}
 use Rattle.refusal.specs.Refusal as refusal
+use Rattle.refusal.specs.declared.RefusedAt.{RefusedAt}
 use Rattle.refusal.specs.Checks.{Check, check, first_fault}
 use Rattle.strings.specs.Strings.{Text, text_at}
 use Rattle.names.specs.Names.{either, is_property_name, same_text}
 use Rattle.tokens.specs.Steps.{pick}
 use Rattle.tokens.specs.Tokens.{Token, begin_node, end_node, property, nop, end, fault}
-use Rattle.properties.specs.declared.PropertiesRead.{PropertiesRead}
 
 -- the name at an offset of a strings block that stands from `from` to `limit` in some bytes
 unfoldable pub name_at : List ℕ → ℕ → ℕ → ℕ → Text
@@ -49,5 +49,6 @@ read_properties stop seen (end_node at ∷ ts) = placed at
 read_properties stop seen (end at ∷ ts) = placed at
 read_properties stop seen (fault at ∷ ts) = placed at
 
-abbrev pub properties_outcome : PropertiesRead → Placed ℕ
-properties_outcome r = record { number = number_of r.refusal; place = r.place; value = r.behind }
+-- what a call answers: the place of the token behind the properties
+abbrev pub properties_outcome : Result ℕ RefusedAt → Placed ℕ
+properties_outcome r = placed_of (λ (n : ℕ). n) 0 r

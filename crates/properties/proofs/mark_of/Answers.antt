@@ -6,4 +6,4 @@ pub returns-then-n-eq0 : goal.returns-then-n-eq0
 returns-then-n-eq0 c = mark-empty _ c.if-n-eq0.true
 
 pub returns : goal.returns
-returns c = mark-some _ c.wide.ensures.0 c.wide-2.ensures.0 c.wide-3.ensures.0 c.wide-4.ensures.0
+returns c = mark-some _ c.from.ensures c.from-2.ensures c.from-3.ensures c.from-4.ensures
