@@ -130,4 +130,4 @@ checks-trees tree = (there, back)
     back : ((header tree).number ≡ 0) × Tree (blocks_of tree).end (without_nop_tokens (all_tokens tree)) → (check_tree tree).number ≡ 0
     back r =
         let w = (accepts-trees tree (blocks_of tree)).1 r.1 in
-        ap (λ (x : Placed Layout). x.number) (sym (header-accepted tree (sym (header-blocks tree r.0)) refl refl) ∙ ap (judge tree (blocks_of tree)) w)
+        ap (λ (x : Placed Layout). x.number) (sym (header-accepted tree (sym (header-blocks tree r.0))) ∙ ap (judge tree (blocks_of tree)) w)

@@ -18,15 +18,16 @@ use Rattle.tokens.specs.declared.Step.TheVariants.{BeginNode, EndNode, Property,
 use Rattle.tokens.specs.Steps.{padded, step_at}
 use Rattle.tokens.specs.Tokens.{Token, begin_node, end_node, property, nop, end, fault, after_name}
 use Rattle.tokens.proofs.TokenList.{follow, tokens-step, nop-moves, end-node-moves, begin-moves}
-use Rattle.properties.specs.Properties.{read_properties, properties_outcome}
-use Rattle.properties.specs.declared.PropertiesRead.{PropertiesRead}
+use Rattle.properties.specs.Properties.{read_properties}
 use Rattle.walk.specs.Walk.{State, in_properties, in_children, Verdict, refused, go_on, stop, parent_of, most_levels, step, walk, name_in, tree_tokens}
 use Rattle.walk.specs.declared.Containers.{Containers}
+use Rattle.walk.specs.declared.Item.{Item}
 use Rattle.walk.specs.declared.NodeRead.{NodeRead}
-use Rattle.walk.specs.declared.NodeRead.TheVariants.{Past, Stop}
-use Rattle.refusal.specs.Refusal.{answer, refuse, number_of}
-use Rattle.refusal.specs.declared.Refusal.{Refusal}
-use Rattle.walk.specs.Parts.{Part, skip, child, close, stop_at, child_part, part_at, note, notes, Passed, Reads}
+use Rattle.std.specs.Prelude.{Result, Ok, Err}
+use Rattle.refusal.specs.Refusal.{answer, refuse, number_of, placed, refuse_at, fault_of_refused}
+use Rattle.refusal.specs.declared.RefusedAt.{RefusedAt}
+use Rattle.refusal.proofs.Numbers.{numbered}
+use Rattle.walk.specs.Parts.{Part, skip, child, close, stop_at, part_of, child_part, part_at, note, notes, Passed, Reads}
 use Rattle.walk.proofs.Fold.{walk-on, walk-stop}
 use Rattle.walk.proofs.PartLaws.{child-good, child-bad, part-begin, part-end-node, part-property, part-nop, part_end, part-fault}
 use Rattle.walk.proofs.Opening.{opened, walk-properties}
@@ -65,6 +66,10 @@ module _ (s : List ℕ) (b : Blocks) (at : ℕ) where
   pub part-is : {p : Part} → part_at s b at ≡ p → PartIs s b at p
   part-is e = from-law e part-view
 
+-- an item that was read
+pub item-is : {s : List ℕ} {b : Blocks} {at : ℕ} {i j : Item} → part_of (Ok i) ≡ part_at s b at → i ≡ j → PartIs s b at (part_of (Ok j))
+item-is {s} {b} {at} {i} {j} e k = part-is s b at (sym e ∙ ap (λ (x : Item). part_of (Ok x)) k)
+
 pub notes-append : (c : Containers) (ts us : List Token) → notes c (ts ++ us) ≡ notes (notes c ts) us
 unfolding notes
 notes-append c [] us = refl
@@ -85,15 +90,15 @@ pub record Inside (s : List ℕ) (b : Blocks) (level from : ℕ) (seen : Contain
   pub same : walk b.end (in_children level) (tree_tokens s b at) ≡ walk b.end (in_properties level []) (tree_tokens s b from)
 
 -- what the node's properties come to: the walk stops, or it is behind them
-module _ (s : List ℕ) (b : Blocks) (level from : ℕ) (r : PropertiesRead) (e : properties_outcome r ≡ read_properties b.end [] (tree_tokens s b from))
-    {n : ℕ} (k : n ≡ number_of r.refusal) where
-  pub inside-begins : (seen : Containers) → n ≡ 0 → Inside s b level from seen r.behind seen
-  inside-begins seen z =
-      let o = opened s b level from (properties_outcome r) e (sym k ∙ z) in
+module _ (s : List ℕ) (b : Blocks) (level from : ℕ) where
+  pub inside-begins : {behind : ℕ} → placed behind ≡ read_properties b.end [] (tree_tokens s b from) → (seen : Containers) → Inside s b level from seen behind seen
+  inside-begins {behind} e seen =
+      let o = opened s b level from (placed behind) e refl in
       record { read = o.read; split = o.split; noted = sym (o.noted seen); forward = o.forward; same = o.same }
 
-  pub properties-stop : (n ≡ 0 → ⊥) → walk b.end (in_properties level []) (tree_tokens s b from) ≡ refused (number_of r.refusal) r.place
-  properties-stop z = walk-properties b.end level [] (tree_tokens s b from) (properties_outcome r) e (λ q. z (k ∙ q))
+  pub properties-stop : (e : RefusedAt) → refuse_at 0 (fault_of_refused e) ≡ read_properties b.end [] (tree_tokens s b from)
+      → walk b.end (in_properties level []) (tree_tokens s b from) ≡ refused (number_of e.refusal) e.place
+  properties-stop e h = walk-properties b.end level [] (tree_tokens s b from) (refuse_at 0 (fault_of_refused e)) h (numbered e.refusal)
 
 pub parent-of : (level : ℕ) → 1 ≤ level → parent_of (level + 1) ≡ in_children level
 parent-of level h =
@@ -211,19 +216,15 @@ module _ (levels : ℕ) (some : 0 < levels) (few : levels < most_levels) (s : Li
   deeper : most_levels - (levels - 1) ≡ most_levels - levels + 1
   deeper = omega arith
 
-  module _ {inner : NodeRead} (r : Reads s b (in_properties (most_levels - (levels - 1)) []) next now (parent_of (most_levels - (levels - 1))) inner) where
-    pub inner-past : {c : Cursor} {found : Containers} → inner ≡ Past c found
-        → (next ≤ c.at) × Passed s b (in_properties (most_levels - levels + 1) []) next now (parent_of (most_levels - levels + 1)) c.at found
-    inner-past {c} {found} e =
-        subst (λ (l : ℕ). (next ≤ c.at) × Passed s b (in_properties l []) next now (parent_of l) c.at found) deeper
-        (subst (Reads s b (in_properties (most_levels - (levels - 1)) []) next now (parent_of (most_levels - (levels - 1)))) e r)
+  pub inner-past : (n : NodeRead) → Reads s b (in_properties (most_levels - (levels - 1)) []) next now (parent_of (most_levels - (levels - 1))) (Ok n)
+      → (next ≤ n.next.at) × Passed s b (in_properties (most_levels - levels + 1) []) next now (parent_of (most_levels - levels + 1)) n.next.at n.found
+  inner-past n r = subst (λ (l : ℕ). (next ≤ n.next.at) × Passed s b (in_properties l []) next now (parent_of l) n.next.at n.found) deeper r
 
-    pub inner-stops : {refusal : Refusal} {p : ℕ} → inner ≡ Stop refusal p → walk b.end (in_properties (most_levels - levels + 1) []) (tree_tokens s b next) ≡ refused (number_of refusal) p
-    inner-stops {refusal} {p} e =
-        subst (λ (l : ℕ). walk b.end (in_properties l []) (tree_tokens s b next) ≡ refused (number_of refusal) p) deeper
-        (subst (Reads s b (in_properties (most_levels - (levels - 1)) []) next now (parent_of (most_levels - (levels - 1)))) e r)
+  pub inner-stops : (e : RefusedAt) → Reads s b (in_properties (most_levels - (levels - 1)) []) next now (parent_of (most_levels - (levels - 1))) (Err e)
+      → walk b.end (in_properties (most_levels - levels + 1) []) (tree_tokens s b next) ≡ refused (number_of e.refusal) e.place
+  inner-stops e r = subst (λ (l : ℕ). walk b.end (in_properties l []) (tree_tokens s b next) ≡ refused (number_of e.refusal) e.place) deeper r
 
--- an answer that stops, as the code has it
-pub stops-with : (s : List ℕ) (b : Blocks) (q : State) (from : ℕ) (seen : Containers) (r : State) {inner : NodeRead} {refusal : Refusal} {p : ℕ} → inner ≡ Stop refusal p
-    → walk b.end q (tree_tokens s b from) ≡ refused (number_of refusal) p → Reads s b q from seen r inner
+-- a refusal that is passed on
+pub stops-with : (s : List ℕ) (b : Blocks) (q : State) (from : ℕ) (seen : Containers) (r : State) {x : Result NodeRead RefusedAt} {e : RefusedAt} → x ≡ Err e
+    → walk b.end q (tree_tokens s b from) ≡ refused (number_of e.refusal) e.place → Reads s b q from seen r x
 stops-with s b q from seen r e w = subst (Reads s b q from seen r) (sym e) w

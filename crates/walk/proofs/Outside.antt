@@ -6,8 +6,8 @@ use Prim.Native.Nat.{ℕ, suc, ◌+◌, ◌<◌, ◌≤◌}
 use native.Mathlib.Omega.{arith}
 use borrow.Author.Tests.{eqb-true, eq-eqb, ne_eqb}
 use lib.ListN.{length, take, drop}
-use Rattle.refusal.specs.Refusal.{number_of}
-use Rattle.refusal.specs.declared.Refusal.{Refusal}
+use Rattle.std.specs.Prelude.{Ok, Err}
+use Rattle.refusal.specs.Refusal.{refused_at}
 use Rattle.refusal.specs.declared.Refusal.TheVariants.{Token as TokenFault}
 use Rattle.strings.specs.Strings.{Text, ended, unended, text_at, same_bytes}
 use Rattle.strings.proofs.Strings.{text-within}
@@ -18,7 +18,7 @@ use Rattle.tokens.specs.declared.Step.TheVariants.{BeginNode, EndNode, Property,
 use Rattle.tokens.specs.Steps.{padded, step_at}
 use Rattle.tokens.specs.Tokens.{Token, begin_node, end_node, property, nop, end, fault}
 use Rattle.tokens.proofs.TokenList.{Is, stops, seen, tokens-step, nop-moves, begin-moves}
-use Rattle.walk.specs.Walk.{State, before_root, in_properties, after_root, Verdict, refused, stop, step, walk, name_in, tree_tokens}
+use Rattle.walk.specs.Walk.{State, before_root, in_properties, after_root, Verdict, accepted, refused, stop, step, walk, name_in, tree_tokens}
 use Rattle.walk.specs.declared.Containers.{Containers}
 use Rattle.walk.specs.Parts.{none, notes, Passed, Ends}
 use Rattle.walk.proofs.Fold.{walk-on, walk-stop}
@@ -106,13 +106,14 @@ module _ {s : List ℕ} {b : Blocks} {from at : ℕ} (g : Outside s b before_roo
   root-fault e = outside-stops g (fault t) [] (tokens-step s b.end (name_in s b) at e) refl
 
 -- after the root
-ends-refused : {s : List ℕ} {b : Blocks} {from t : ℕ} {x : Refusal} {p : ℕ} → (x ≡ TokenFault) × (p ≡ t) → walk b.end after_root (tree_tokens s b from) ≡ refused 6 t → Ends s b from (number_of x) p
-ends-refused {s} {b} {from} {t} {x} {p} r w =
-    subst (λ (y : Refusal). Ends s b from (number_of y) p) (sym r.0)
-    (subst (λ (y : ℕ). Ends s b from 6 y) (sym r.1) (record { same = w; nothing = λ z. absurd (omega arith) }))
+ends-refused : {s : List ℕ} {b : Blocks} {from t : ℕ} → walk b.end after_root (tree_tokens s b from) ≡ refused 6 t → Ends s b from (Err (refused_at TokenFault t))
+ends-refused {s} {b} {from} {t} w = record { same = w; nothing = λ z. absurd (apart (sym w ∙ z)) }
+  where
+    apart : refused 6 t ≡ accepted → ⊥
+    apart e = cc
 
 module _ {s : List ℕ} {b : Blocks} {from at : ℕ} (g : Outside s b after_root from at) {t : ℕ} where
-  pub last-accepted : step_at s b.end at ≡ End t → t + 4 ≡ b.end → Ends s b from 0 0
+  pub last-accepted : step_at s b.end at ≡ End t → t + 4 ≡ b.end → Ends s b from (Ok tt)
   unfolding step notes
   last-accepted e k =
       let h = tokens-step s b.end (name_in s b) at e in
@@ -121,26 +122,25 @@ module _ {s : List ℕ} {b : Blocks} {from at : ℕ} (g : Outside s b after_root
         nothing = λ _ c. ap (notes c) (g.split ∙ ap (λ (ts : List Token). g.read ++ ts) h) ∙ notes-append c g.read (end t ∷ []) ∙ g.nothing c;
       }
 
-  module _ {x : Refusal} {p : ℕ} (r : (x ≡ TokenFault) × (p ≡ t)) where
-    pub last-early : step_at s b.end at ≡ End t → (t + 4 ≡ b.end → ⊥) → Ends s b from (number_of x) p
-    unfolding step
-    last-early e k = ends-refused r (outside-stops g (end t) [] (tokens-step s b.end (name_in s b) at e) (rw (ne_eqb (t + 4) b.end k)))
+  pub last-early : step_at s b.end at ≡ End t → (t + 4 ≡ b.end → ⊥) → Ends s b from (Err (refused_at TokenFault t))
+  unfolding step
+  last-early e k = ends-refused (outside-stops g (end t) [] (tokens-step s b.end (name_in s b) at e) (rw (ne_eqb (t + 4) b.end k)))
 
-    pub last-begin : {c : Cursor} → step_at s b.end at ≡ BeginNode t c → Ends s b from (number_of x) p
-    unfolding step
-    last-begin {c} e = ends-refused r (outside-stops g (begin_node t (text_at s c.at b.end)) _ (tokens-step s b.end (name_in s b) at e) refl)
+  pub last-begin : {c : Cursor} → step_at s b.end at ≡ BeginNode t c → Ends s b from (Err (refused_at TokenFault t))
+  unfolding step
+  last-begin {c} e = ends-refused (outside-stops g (begin_node t (text_at s c.at b.end)) _ (tokens-step s b.end (name_in s b) at e) refl)
 
-    pub last-end-node : {c : Cursor} → step_at s b.end at ≡ EndNode t c → Ends s b from (number_of x) p
-    unfolding step
-    last-end-node e = ends-refused r (outside-stops g (end_node t) _ (tokens-step s b.end (name_in s b) at e) refl)
+  pub last-end-node : {c : Cursor} → step_at s b.end at ≡ EndNode t c → Ends s b from (Err (refused_at TokenFault t))
+  unfolding step
+  last-end-node e = ends-refused (outside-stops g (end_node t) _ (tokens-step s b.end (name_in s b) at e) refl)
 
-    pub last-property : {v l o : ℕ} {c : Cursor} → step_at s b.end at ≡ Property t v l o c → Ends s b from (number_of x) p
-    unfolding step
-    last-property {v} {l} {o} e = ends-refused r (outside-stops g (property t (name_in s b o) (take l (drop v s))) _ (tokens-step s b.end (name_in s b) at e) refl)
+  pub last-property : {v l o : ℕ} {c : Cursor} → step_at s b.end at ≡ Property t v l o c → Ends s b from (Err (refused_at TokenFault t))
+  unfolding step
+  last-property {v} {l} {o} e = ends-refused (outside-stops g (property t (name_in s b o) (take l (drop v s))) _ (tokens-step s b.end (name_in s b) at e) refl)
 
-    pub last-fault : step_at s b.end at ≡ Fault t → Ends s b from (number_of x) p
-    unfolding step
-    last-fault e = ends-refused r (outside-stops g (fault t) [] (tokens-step s b.end (name_in s b) at e) refl)
+  pub last-fault : step_at s b.end at ≡ Fault t → Ends s b from (Err (refused_at TokenFault t))
+  unfolding step
+  last-fault e = ends-refused (outside-stops g (fault t) [] (tokens-step s b.end (name_in s b) at e) refl)
 
 end_is : {s : List ℕ} {stop at t : ℕ} → Is s stop at (End t) → (t ≡ at) × (at + 4 ≤ stop)
 end_is (stops h k) = (refl, h)

@@ -49,17 +49,3 @@ module _ (s : List ℕ) (b : Blocks) (at : ℕ) {t : ℕ} where
   pub part-fault : step_at s b.end at ≡ Fault t → stop_at 6 t ≡ part_at s b at
   unfolding part_at
   part-fault e = rw (e, part_at)
-
--- one more node begins: its name is the container's, or not
-module _ (c : Containers) (at : ℕ) (name : List ℕ) where
-  pub note-other : same_bytes name container_name ≡ false → c ≡ note c at name
-  note-other e = rw e
-
-  pub note-first : same_bytes name container_name ≡ true → c.count ≡ 0 → record { count = 1; first = at; second = 0 } ≡ note c at name
-  note-first e k = rw (e, eq-eqb c.count 0 k)
-
-  pub note-second : same_bytes name container_name ≡ true → (c.count ≡ 0 → ⊥) → c.count ≡ 1 → record { count = 2; first = c.first; second = at } ≡ note c at name
-  note-second e z k = rw (e, ne_eqb c.count 0 z, eq-eqb c.count 1 k)
-
-  pub note-third : same_bytes name container_name ≡ true → (c.count ≡ 0 → ⊥) → (c.count ≡ 1 → ⊥) → c ≡ note c at name
-  note-third e z k = rw (e, ne_eqb c.count 0 z, ne_eqb c.count 1 k)

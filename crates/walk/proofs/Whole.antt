@@ -5,7 +5,10 @@ use mathlib.Core.List.{List, [], ◌∷◌, ◌++◌, append_assoc, append-nil}
 use Prim.Native.Nat.{ℕ, zero, suc, min}
 use native.Mathlib.Omega.{arith}
 use lib.ListN.{length}
-use Rattle.refusal.specs.Refusal.{number_of, Placed, placed, refuse_at, fault}
+use Rattle.std.specs.Prelude.{Result}
+use Rattle.refusal.specs.Refusal.{number_of, Placed, placed, refuse_at, fault, fault_of_refused}
+use Rattle.refusal.specs.declared.RefusedAt.{RefusedAt}
+use Rattle.refusal.proofs.Numbers.{numbered}
 use Rattle.strings.specs.Strings.{ended, unended, same_bytes}
 use Rattle.names.specs.Names.{same_text}
 use Rattle.header.specs.declared.Blocks.{Blocks}
@@ -13,15 +16,11 @@ use Rattle.tokens.specs.Steps.{pick}
 use Rattle.tokens.specs.Tokens.{Token, begin_node, end_node, property, nop, end, fault as fault_token}
 use Rattle.walk.specs.Walk.{State, before_root, in_properties, after_root, parent_of, Verdict, accepted, refused, walk, tree_tokens}
 use Rattle.walk.specs.Containers.{container_name, container_offsets, first_two}
-use Rattle.header.specs.Header.{header}
-use Rattle.refusal.specs.declared.Refusal.{Refusal}
-use Rattle.tokens.specs.declared.Cursor.{Cursor}
-use Rattle.walk.specs.declared.NodeRead.{NodeRead}
-use Rattle.walk.specs.declared.NodeRead.TheVariants.{Past, Stop}
+use Rattle.header.specs.Header.{header, no_blocks}
 use Rattle.walk.specs.Checked.{layout_of, no_layout, judge, after_header, check_tree}
 use Rattle.walk.specs.declared.Containers.{Containers}
 use Rattle.walk.specs.declared.Layout.{Layout}
-use Rattle.walk.specs.Parts.{none, add, notes, Passed, Reads, Ends, outcome, Closes}
+use Rattle.walk.specs.Parts.{none, add, notes, Passed, verdict, Ends, outcome, Closes}
 use Rattle.walk.proofs.Flow.{notes-append}
 
 -- the containers noted are the first two
@@ -50,18 +49,9 @@ notes-are l (nop at ∷ ts) = notes-are l ts
 notes-are l (end at ∷ ts) = notes-are l ts
 notes-are l (fault_token at ∷ ts) = notes-are l ts
 
--- the verdict after the root, by its number
-module _ (s : List ℕ) (b : Blocks) (at : ℕ) (found : Containers) where
-  pub closes-refused : {n p : ℕ} {r : Placed Layout} → Ends s b at n p → (n ≡ 0 → ⊥) → r ≡ refuse_at no_layout (fault n p) → Closes s b at found r
-  closes-refused {n = zero} g z e = absurd (z refl)
-  closes-refused {n = suc n} {p} g z e = record { is = e ∙ ap (outcome b found) (sym g.same); nothing = λ w. absurd (apart (sym g.same ∙ w)) }
-    where
-      apart : refused (suc n) p ≡ accepted → ⊥
-      apart q = let y : ◌≡◌ {A = ℕ} 0 1 = cc in omega arith
-
-  pub closes-accepted : {n p : ℕ} → Ends s b at n p → n ≡ 0 → Closes s b at found (placed (record { blocks = b; containers = found }))
-  closes-accepted {n = zero} g z = record { is = ap (outcome b found) (sym g.same); nothing = λ w. g.nothing refl }
-  closes-accepted {n = suc n} g z = absurd (omega arith)
+-- the outcome of what was read after the root
+pub closes : (s : List ℕ) (b : Blocks) (at : ℕ) (found : Containers) {r : Result (Unit {0}) RefusedAt} → Ends s b at r → Closes s b at found (outcome b found (verdict r))
+closes s b at found g = record { is = ap (outcome b found) (sym g.same); nothing = g.nothing }
 
 -- the root, its contents, and what follows
 module _ (s : List ℕ) (b : Blocks) where
@@ -96,24 +86,16 @@ module _ (s : List ℕ) (b : Blocks) where
             rw (W, w) (ap (λ (c : Containers). placed (record { blocks = b; containers = c })) k)
         decide (refused n p) w = rw (W, w)
 
--- what the parts answer, by the case
-module _ (s : List ℕ) (b : Blocks) (q : State) (from : ℕ) (c : Containers) (r : State) {x : NodeRead} (g : Reads s b q from c r x) where
-  pub read_past : {next : Cursor} {found : Containers} → x ≡ Past next found → Passed s b q from c r next.at found
-  read_past e = (subst (Reads s b q from c r) e g).1
-
-  pub read-stop : {refusal : Refusal} {p : ℕ} → x ≡ Stop refusal p → walk b.end q (tree_tokens s b from) ≡ refused (number_of refusal) p
-  read-stop e = subst (Reads s b q from c r) e g
-
 -- the header, and then the walk
-module _ (tree : List ℕ) {n p : ℕ} {b : Blocks} (h : record { number = n; place = p; value = b } ≡ header tree) where
-  pub header_refused : {k : ℕ} → k ≡ n → (k ≡ 0 → ⊥) → refuse_at no_layout (fault n p) ≡ check_tree tree
+module _ (tree : List ℕ) where
+  pub header_refused : (e : RefusedAt) → refuse_at no_blocks (fault_of_refused e) ≡ header tree → refuse_at no_layout (fault_of_refused e) ≡ check_tree tree
   unfolding check_tree
-  header_refused {k} e z = go n refl (λ q. z (e ∙ q)) ∙ ap (after_header tree) h
+  header_refused e h = go (number_of e.refusal) refl ∙ ap (after_header tree) h
     where
-      go : (m : ℕ) → n ≡ m → (m ≡ 0 → ⊥) → refuse_at no_layout (fault n p) ≡ after_header tree (record { number = n; place = p; value = b })
-      go zero q y = absurd (y refl)
-      go (suc m) q y = subst (λ (k : ℕ). refuse_at no_layout (fault k p) ≡ after_header tree (record { number = k; place = p; value = b })) (sym q) refl
+      go : (m : ℕ) → number_of e.refusal ≡ m → refuse_at no_layout (fault m e.place) ≡ after_header tree (refuse_at no_blocks (fault m e.place))
+      go zero q = absurd (numbered e.refusal q)
+      go (suc m) q = refl
 
-  pub header-accepted : {k : ℕ} → k ≡ n → k ≡ 0 → judge tree b (walk b.end before_root (tree_tokens tree b b.start)) ≡ check_tree tree
+  pub header-accepted : {b : Blocks} → placed b ≡ header tree → judge tree b (walk b.end before_root (tree_tokens tree b b.start)) ≡ check_tree tree
   unfolding check_tree
-  header-accepted {k} e z = let y : n ≡ 0 = sym e ∙ z in sym (rw y) ∙ ap (after_header tree) h
+  header-accepted h = ap (after_header tree) h

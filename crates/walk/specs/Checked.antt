@@ -1,12 +1,12 @@
 -- A tree, checked whole: its header, and then the walk (document 01, "The walk").
-use Rattle.std.specs.Prelude.{ℕ, zero, suc, List, []}
-use Rattle.refusal.specs.Refusal.{Placed, placed, refuse_at, fault, number_of}
+use Rattle.std.specs.Prelude.{ℕ, zero, suc, List, [], Result}
+use Rattle.refusal.specs.Refusal.{Placed, placed, refuse_at, fault, placed_of}
+use Rattle.refusal.specs.declared.RefusedAt.{RefusedAt}
 use Rattle.header.specs.Header.{header}
 use Rattle.header.specs.declared.Blocks.{Blocks}
 use Rattle.walk.specs.Walk.{Verdict, accepted, refused, before_root, walk, tree_tokens}
 use Rattle.walk.specs.Containers.{container_offsets, first_two}
 use Rattle.walk.specs.declared.Layout.{Layout}
-use Rattle.walk.specs.declared.Checked.{Checked}
 
 -- where a tree's blocks lie and where its containers begin
 unfoldable pub layout_of : List ℕ → Blocks → Layout
@@ -31,5 +31,5 @@ unfoldable pub check_tree : List ℕ → Placed Layout
 check_tree tree = after_header tree (header tree)
 
 -- what an answer says: the number of document 01, the place, and the layout
-abbrev pub checked_outcome : Checked → Placed Layout
-checked_outcome r = record { number = number_of r.refusal; place = r.place; value = r.layout }
+abbrev pub checked_outcome : Result Layout RefusedAt → Placed Layout
+checked_outcome r = placed_of (λ (l : Layout). l) no_layout r

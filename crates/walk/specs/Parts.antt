@@ -1,10 +1,11 @@
 -- What the parts of the walk's code answer. The promise of `check_tree` rests on `Checked`, not on this file.
-use Rattle.std.specs.Prelude.{ℕ, zero, suc, ◌+◌, ◌*◌, ◌/◌, ◌≤◌, ◌≡◌, List, [], ◌∷◌, ◌++◌, eqb}
+use Rattle.std.specs.Prelude.{ℕ, zero, suc, ◌+◌, ◌*◌, ◌/◌, ◌≤◌, ◌≡◌, List, [], ◌∷◌, ◌++◌, eqb, Result, Ok, Err}
 use Rattle.strings.specs.Strings.{ended, unended, same_bytes}
 use Rattle.names.specs.Names.{node_name_at}
 use Rattle.refusal.specs.Refusal.{number_of, Outcome, Placed, placed, refuse_at, fault as refused_at}
+use Rattle.refusal.specs.declared.RefusedAt.{RefusedAt}
 use Rattle.header.specs.declared.Blocks.{Blocks}
-use Rattle.tokens.specs.declared.Step.TheVariants.{BeginNode, EndNode, Property, Nop, End, Fault as NoToken}
+use Rattle.tokens.specs.declared.Step.TheVariants.{BeginNode, EndNode, Property, Nop, End, Fault}
 use Rattle.tokens.specs.Steps.{pick, step_at}
 use Rattle.tokens.specs.Tokens.{Token, begin_node, end_node, property, nop, end, fault}
 use Rattle.walk.specs.Walk.{Verdict, accepted, refused, State, after_root, walk, tree_tokens}
@@ -13,9 +14,8 @@ use Rattle.walk.specs.declared.Containers.{Containers}
 use Rattle.walk.specs.Checked.{no_layout}
 use Rattle.walk.specs.declared.Layout.{Layout}
 use Rattle.walk.specs.declared.Item.{Item}
-use Rattle.walk.specs.declared.Item.TheVariants.{Skip, Child, Close, Fault}
+use Rattle.walk.specs.declared.Item.TheVariants.{Skip, Child, Close}
 use Rattle.walk.specs.declared.NodeRead.{NodeRead}
-use Rattle.walk.specs.declared.NodeRead.TheVariants.{Past, Stop}
 
 -- what stands next in a node, with places and numbers
 pub data Part : Type 0 where
@@ -24,11 +24,11 @@ pub data Part : Type 0 where
   close : (next : ℕ) → Part
   stop_at : (number at : ℕ) → Part
 
-abbrev pub part_of : Item → Part
-part_of (Skip next) = skip next.at
-part_of (Child c) = child c.at c.name c.length c.next.at
-part_of (Close next) = close next.at
-part_of (Fault refusal at) = stop_at (number_of refusal) at
+abbrev pub part_of : Result Item RefusedAt → Part
+part_of (Ok (Skip next)) = skip next.at
+part_of (Ok (Child c)) = child c.at c.name c.length c.next.at
+part_of (Ok (Close next)) = close next.at
+part_of (Err e) = stop_at (number_of e.refusal) e.place
 
 -- a child node by its name, which begins at `from`: its length, or its fault
 abbrev pub child_by : Outcome ℕ → ℕ → ℕ → Part
@@ -46,7 +46,7 @@ part_at s b at =
       | Property t value size name next ↦ stop_at 6 t
       | Nop t next ↦ skip next.at
       | End t ↦ stop_at 6 t
-      | NoToken t ↦ stop_at 6 t
+      | Fault t ↦ stop_at 6 t
     ]
 
 abbrev pub none : Containers
@@ -80,19 +80,19 @@ pub record Passed (s : List ℕ) (b : Blocks) (q : State) (from : ℕ) (seen : C
   pub same : walk b.end q (tree_tokens s b from) ≡ walk b.end r (tree_tokens s b next)
 
 -- or it stops there
-abbrev pub Reads : List ℕ → Blocks → State → ℕ → Containers → State → NodeRead → Type 0
-Reads s b q from seen r (Past next found) = (from ≤ next.at) × Passed s b q from seen r next.at found
-Reads s b q from seen r (Stop refusal at) = walk b.end q (tree_tokens s b from) ≡ refused (number_of refusal) at
+abbrev pub Reads : List ℕ → Blocks → State → ℕ → Containers → State → Result NodeRead RefusedAt → Type 0
+Reads s b q from seen r (Ok n) = (from ≤ n.next.at) × Passed s b q from seen r n.next.at n.found
+Reads s b q from seen r (Err e) = walk b.end q (tree_tokens s b from) ≡ refused (number_of e.refusal) e.place
 
--- the verdict of a number and a place
-abbrev pub verdict : ℕ → ℕ → Verdict
-verdict zero place = accepted
-verdict (suc n) place = refused (suc n) place
+-- the verdict of what was read after the root
+abbrev pub verdict : Result (Unit {0}) RefusedAt → Verdict
+verdict (Ok u) = accepted
+verdict (Err e) = refused (number_of e.refusal) e.place
 
 -- what follows the root: the verdict, and no container where it is accepted
-pub record Ends (s : List ℕ) (b : Blocks) (from number place : ℕ) : Type 0 where
-  pub same : walk b.end after_root (tree_tokens s b from) ≡ verdict number place
-  pub nothing : number ≡ 0 → (c : Containers) → notes c (tree_tokens s b from) ≡ c
+pub record Ends (s : List ℕ) (b : Blocks) (from : ℕ) (r : Result (Unit {0}) RefusedAt) : Type 0 where
+  pub same : walk b.end after_root (tree_tokens s b from) ≡ verdict r
+  pub nothing : walk b.end after_root (tree_tokens s b from) ≡ accepted → (c : Containers) → notes c (tree_tokens s b from) ≡ c
 
 -- the outcome of a verdict where these containers were found
 abbrev pub outcome : Blocks → Containers → Verdict → Placed Layout

@@ -2,7 +2,6 @@
 #![tactic(auto)]
 
 ghost use Rattle.std.specs.Prelude.{◌≡◌, ◌+◌, ◌-◌, ◌<◌, ◌≤◌, length as length-of, take, drop, []};
-ghost use Rattle.refusal.specs.Refusal.{number_of, fault, refuse_at};
 ghost use Rattle.properties.specs.Properties.{read_properties, properties_outcome};
 ghost use Rattle.walk.specs.Walk.{
   before_root,
@@ -12,20 +11,19 @@ ghost use Rattle.walk.specs.Walk.{
   walk,
   tree_tokens,
 };
-ghost use Rattle.walk.specs.Checked.{no_layout, judge, check_tree, checked_outcome};
-ghost use Rattle.walk.specs.Parts.{part_of, stop_at, child_part, part_at, none, note, Reads, Ends, Closes};
+ghost use Rattle.walk.specs.Checked.{judge, check_tree, checked_outcome};
+ghost use Rattle.walk.specs.Parts.{part_of, child_part, part_at, none, note, Reads, Ends, Closes};
 
 use header::Blocks;
-use names::NameRead;
-use properties::{PropertiesRead, StringsBlock};
-use refusal::Refusal;
+use properties::StringsBlock;
+use refusal::{Refusal, RefusedAt};
 use tokens::{Cursor, Step};
 
 // The most levels of nodes, the root's among them.
 pub const MOST_LEVELS: usize = 16;
 
 // How many containers a tree has, up to two, and where their begin tokens stand; zero where there is none.
-#[derive(Clone, Copy)]
+#[derive(Clone, Copy, Debug, PartialEq, Eq)]
 pub struct Containers {
     pub count: u32,
     pub first: usize,
@@ -33,17 +31,10 @@ pub struct Containers {
 }
 
 // What is known of an accepted tree.
-#[derive(Clone, Copy)]
+#[derive(Clone, Copy, Debug, PartialEq, Eq)]
 pub struct Layout {
     pub blocks: Blocks,
     pub containers: Containers,
-}
-
-#[derive(Clone, Copy)]
-pub struct Checked {
-    pub refusal: Refusal,
-    pub place: usize,
-    pub layout: Layout,
 }
 
 // A child of a node: its begin token, its name and how many characters that has, and what follows.
@@ -55,24 +46,23 @@ struct ChildNode {
     next: Cursor,
 }
 
-// What stands next in a node: something to skip, a child, its end, or a fault.
+// What stands next in a node: something to skip, a child, or its end.
 #[derive(Clone, Copy)]
 enum Item {
     Skip(Cursor),
     Child(ChildNode),
     Close(Cursor),
-    Fault { refusal: Refusal, at: usize },
 }
 
-// The contents of a node: what follows its end token, or where the walk stops.
+// What was read of a node: what follows it, and the containers up to there.
 #[derive(Clone, Copy)]
-enum NodeRead {
-    Past { next: Cursor, found: Containers },
-    Stop { refusal: Refusal, at: usize },
+struct NodeRead {
+    next: Cursor,
+    found: Containers,
 }
 
-// The properties of a node whose contents begin at `from`.
-fn properties_at(tree: &[u8], b: Blocks, from: usize) -> PropertiesRead
+// The properties of a node whose contents begin at `from`: the place of the token behind them.
+fn properties_at(tree: &[u8], b: Blocks, from: usize) -> Result<usize, RefusedAt>
     ensures { properties_outcome result ≡ read_properties b.end [] (tree_tokens tree.now b from) }
 {
     let strings = StringsBlock {
@@ -83,62 +73,32 @@ fn properties_at(tree: &[u8], b: Blocks, from: usize) -> PropertiesRead
 }
 
 // A child node at `t`, whose name begins at `from`.
-fn child_item(tree: &[u8], b: Blocks, t: usize, from: usize) -> Item
+fn child_item(tree: &[u8], b: Blocks, t: usize, from: usize) -> Result<Item, RefusedAt>
     ensures { part_of result ≡ child_part tree.now b t from }
 {
-    let end = b.end;
-    let read = names::node_name(tree, from, end);
-    match read {
-        NameRead::Good(length) => Item::Child(ChildNode {
-            at: t,
-            name: from,
-            length,
-            next: Cursor {
-                at: from + (length / 4 + 1) * 4,
-            },
-        }),
-        NameRead::Bad => Item::Fault {
-            refusal: Refusal::Name,
-            at: t,
+    let length = names::node_name(tree, from, b.end).ok_or(Refusal::Name.at(t))?;
+    Ok(Item::Child(ChildNode {
+        at: t,
+        name: from,
+        length,
+        next: Cursor {
+            at: from + (length / 4 + 1) * 4,
         },
-    }
-}
-
-fn stopped(refusal: Refusal, at: usize) -> NodeRead
-    ensures { result ≡ NodeRead.Stop refusal at }
-{
-    NodeRead::Stop { refusal, at }
-}
-
-fn misplaced(at: usize) -> Item
-    ensures { part_of result ≡ stop_at 6 at }
-{
-    Item::Fault {
-        refusal: Refusal::Token,
-        at,
-    }
+    }))
 }
 
 // What stands at a place in a node, behind its properties.
-fn item_at(tree: &[u8], b: Blocks, at: usize) -> Item
+fn item_at(tree: &[u8], b: Blocks, at: usize) -> Result<Item, RefusedAt>
     ensures { part_of result ≡ part_at tree.now b at }
 {
-    let end = b.end;
-    let c = Cursor { at };
-    let step = c.step(tree, end);
-    match step {
-        Step::BeginNode { at: t, name } => child_item(tree, b, t, name.at),
-        Step::EndNode { at: _, next } => Item::Close(next),
-        Step::Property {
-            at: t,
-            value: _,
-            length: _,
-            name: _,
-            next: _,
-        } => misplaced(t),
-        Step::Nop { at: _, next } => Item::Skip(next),
-        Step::End { at: t } => misplaced(t),
-        Step::Fault { at: t } => misplaced(t),
+    let cursor = Cursor { at };
+    match cursor.step(tree, b.end) {
+        Step::BeginNode { at, name } => child_item(tree, b, at, name.at),
+        Step::EndNode { next, .. } => Ok(Item::Close(next)),
+        Step::Nop { next, .. } => Ok(Item::Skip(next)),
+        Step::Property { at, .. } | Step::End { at } | Step::Fault { at } => {
+            Err(Refusal::Token.at(at))
+        }
     }
 }
 
@@ -147,68 +107,51 @@ fn noted(seen: Containers, tree: &[u8], at: usize, from: usize, length: usize) -
     requires { from + length ≤ length-of tree.now }
     ensures { result ≡ note seen at (take length (drop from tree.now)) }
 {
-    let end = from + length;
-    if !strings::same_bytes(&tree[from..end], b"ibm,powerpc-cpu-features") {
+    if !strings::same_bytes(&tree[from..from + length], b"ibm,powerpc-cpu-features") {
         return seen;
     }
-    if seen.count == 0 {
-        return Containers {
+    match seen.count {
+        0 => Containers {
             count: 1,
             first: at,
             second: 0,
-        };
-    }
-    if seen.count == 1 {
-        return Containers {
+        },
+        1 => Containers {
             count: 2,
             first: seen.first,
             second: at,
-        };
+        },
+        _ => seen,
     }
-    seen
 }
 
 // Document 01: "nesting is followed to sixteen levels and no deeper". The contents of a node, to past its end token: its properties, and
 // then a call for each child, the levels left falling by one.
-fn contents(tree: &[u8], b: Blocks, from: usize, levels: usize, seen: Containers) -> NodeRead
+fn contents(
+    tree: &[u8],
+    b: Blocks,
+    from: usize,
+    levels: usize,
+    seen: Containers,
+) -> Result<NodeRead, RefusedAt>
     requires { levels < most_levels }
     ensures { Reads tree.now b (in_properties (most_levels - levels) []) from seen (parent_of (most_levels - levels)) result }
 {
-    let read = properties_at(tree, b, from);
-    let refusal = read.refusal;
-    if refusal::number(refusal) != 0 {
-        return stopped(refusal, read.place);
-    }
-    let mut at = read.behind;
-    let mut all = seen;
+    let mut at = properties_at(tree, b, from)?;
+    let mut found = seen;
     loop {
-        let item = item_at(tree, b, at);
-        match item {
-            Item::Skip(next) => {
-                at = next.at;
-            }
+        match item_at(tree, b, at)? {
+            Item::Skip(next) => at = next.at,
             Item::Child(child) => {
                 if levels == 0 {
-                    return stopped(Refusal::TooMany, child.at);
+                    return Err(Refusal::TooMany.at(child.at));
                 }
-                let now = noted(all, tree, child.at, child.name, child.length);
-                let inner = contents(tree, b, child.next.at, levels - 1, now);
-                match inner {
-                    NodeRead::Past { next, found } => {
-                        at = next.at;
-                        all = found;
-                    }
-                    NodeRead::Stop { refusal: _, at: _ } => {
-                        return inner;
-                    }
-                }
+                let now = noted(found, tree, child.at, child.name, child.length);
+                let inner = contents(tree, b, child.next.at, levels - 1, now)?;
+                at = inner.next.at;
+                found = inner.found;
             }
-            Item::Close(next) => {
-                return NodeRead::Past { next, found: all };
-            }
-            Item::Fault { refusal, at: p } => {
-                return stopped(refusal, p);
-            }
+            Item::Close(next) => return Ok(NodeRead { next, found }),
         }
     }
 }
@@ -220,180 +163,76 @@ const NO_CONTAINERS: Containers = Containers {
 };
 
 // The root's begin token, with its empty name; NOPs may stand before it.
-fn root_at(tree: &[u8], b: Blocks, start: usize) -> NodeRead
+fn root_at(tree: &[u8], b: Blocks, start: usize) -> Result<NodeRead, RefusedAt>
     ensures { Reads tree.now b before_root start none (in_properties 1 []) result }
 {
-    let mut at = start;
+    let mut cursor = Cursor { at: start };
     loop {
-        let end = b.end;
-        let c = Cursor { at };
-        let step = c.step(tree, end);
-        match step {
-            Step::Nop { at: _, next } => {
-                at = next.at;
-            }
-            Step::BeginNode { at: t, name } => {
-                let from = name.at;
-                if names::root_name(tree, from, end) {
-                    return NodeRead::Past {
-                        next: Cursor { at: from + 4 },
-                        found: NO_CONTAINERS,
-                    };
+        match cursor.step(tree, b.end) {
+            Step::Nop { next, .. } => cursor = next,
+            Step::BeginNode { at, name } => {
+                if !names::root_name(tree, name.at, b.end) {
+                    return Err(Refusal::Name.at(at));
                 }
-                return stopped(Refusal::Name, t);
+                return Ok(NodeRead {
+                    next: Cursor { at: name.at + 4 },
+                    found: NO_CONTAINERS,
+                });
             }
-            Step::EndNode { at: t, next: _ } => {
-                return stopped(Refusal::Token, t);
-            }
-            Step::Property {
-                at: t,
-                value: _,
-                length: _,
-                name: _,
-                next: _,
-            } => {
-                return stopped(Refusal::Token, t);
-            }
-            Step::End { at: t } => {
-                return stopped(Refusal::Token, t);
-            }
-            Step::Fault { at: t } => {
-                return stopped(Refusal::Token, t);
-            }
+            Step::EndNode { at, .. }
+            | Step::Property { at, .. }
+            | Step::End { at }
+            | Step::Fault { at } => return Err(Refusal::Token.at(at)),
         }
-    }
-}
-
-// The verdict on what follows the root.
-#[derive(Clone, Copy)]
-struct Judged {
-    refusal: Refusal,
-    place: usize,
-}
-
-fn misplaced_after(at: usize) -> Judged
-    ensures { (result.refusal ≡ Refusal.Token) × (result.place ≡ at) }
-{
-    Judged {
-        refusal: Refusal::Token,
-        place: at,
     }
 }
 
 // After the root: the end token, in the last cell of the block; NOPs may stand before it.
-fn last_at(tree: &[u8], b: Blocks, from: usize) -> Judged
-    ensures { Ends tree.now b from (number_of result.refusal) result.place }
+fn last_at(tree: &[u8], b: Blocks, from: usize) -> Result<(), RefusedAt>
+    ensures { Ends tree.now b from result }
 {
-    let mut at = from;
+    let mut cursor = Cursor { at: from };
     loop {
-        let end = b.end;
-        let c = Cursor { at };
-        let step = c.step(tree, end);
-        match step {
-            Step::Nop { at: _, next } => {
-                at = next.at;
-            }
-            Step::End { at: t } => {
-                if t + 4 == end {
-                    return Judged {
-                        refusal: Refusal::None,
-                        place: 0,
-                    };
+        match cursor.step(tree, b.end) {
+            Step::Nop { next, .. } => cursor = next,
+            Step::End { at } => {
+                if at + 4 == b.end {
+                    return Ok(());
                 }
-                return misplaced_after(t);
+                return Err(Refusal::Token.at(at));
             }
-            Step::BeginNode { at: t, name: _ } => {
-                return misplaced_after(t);
-            }
-            Step::EndNode { at: t, next: _ } => {
-                return misplaced_after(t);
-            }
-            Step::Property {
-                at: t,
-                value: _,
-                length: _,
-                name: _,
-                next: _,
-            } => {
-                return misplaced_after(t);
-            }
-            Step::Fault { at: t } => {
-                return misplaced_after(t);
-            }
+            Step::BeginNode { at, .. }
+            | Step::EndNode { at, .. }
+            | Step::Property { at, .. }
+            | Step::Fault { at } => return Err(Refusal::Token.at(at)),
         }
-    }
-}
-
-fn refused_tree(refusal: Refusal, place: usize) -> Checked
-    ensures { checked_outcome result ≡ refuse_at no_layout (fault (number_of refusal) place) }
-{
-    let blocks = Blocks {
-        start: 0,
-        end: 0,
-        strings: 0,
-        limit: 0,
-    };
-    let layout = Layout {
-        blocks,
-        containers: NO_CONTAINERS,
-    };
-    Checked {
-        refusal,
-        place,
-        layout,
     }
 }
 
 // What follows the root's contents, which found these containers.
-fn closed_tree(tree: &[u8], b: Blocks, at: usize, found: Containers) -> Checked
+fn closed_tree(tree: &[u8], b: Blocks, at: usize, found: Containers) -> Result<Layout, RefusedAt>
     ensures { Closes tree.now b at found (checked_outcome result) }
 {
-    let last = last_at(tree, b, at);
-    let refusal = last.refusal;
-    if refusal::number(refusal) != 0 {
-        return refused_tree(refusal, last.place);
-    }
-    let layout = Layout {
+    last_at(tree, b, at)?;
+    Ok(Layout {
         blocks: b,
         containers: found,
-    };
-    Checked {
-        refusal: Refusal::None,
-        place: 0,
-        layout,
-    }
+    })
 }
 
 // The walk over a tree whose blocks lie in it.
-fn walk_tree(tree: &[u8], b: Blocks) -> Checked
+fn walk_tree(tree: &[u8], b: Blocks) -> Result<Layout, RefusedAt>
     ensures { checked_outcome result ≡ judge tree.now b (walk b.end before_root (tree_tokens tree.now b b.start)) }
 {
-    let start = b.start;
-    let root = root_at(tree, b, start);
-    match root {
-        NodeRead::Stop { refusal, at } => refused_tree(refusal, at),
-        NodeRead::Past { next, found } => {
-            let inner = contents(tree, b, next.at, MOST_LEVELS - 1, found);
-            match inner {
-                NodeRead::Stop { refusal, at } => refused_tree(refusal, at),
-                NodeRead::Past {
-                    next: after,
-                    found: all,
-                } => closed_tree(tree, b, after.at, all),
-            }
-        }
-    }
+    let root = root_at(tree, b, b.start)?;
+    let inner = contents(tree, b, root.next.at, MOST_LEVELS - 1, root.found)?;
+    closed_tree(tree, b, inner.next.at, inner.found)
 }
 
 // A tree, checked whole. Refusals: those of the header, and then the first faulty token's, 6, 7, 8 or 9, at its place.
-pub fn check_tree(tree: &[u8]) -> Checked
+pub fn check_tree(tree: &[u8]) -> Result<Layout, RefusedAt>
     ensures { checked_outcome result ≡ check_tree tree.now }
 {
-    let header = header::read_header(tree);
-    let refusal = header.refusal;
-    let blocks = header.blocks;
-    if refusal::number(refusal) != 0 {
-        return refused_tree(refusal, header.place);
-    }
+    let blocks = header::read_header(tree)?;
     walk_tree(tree, blocks)
 }

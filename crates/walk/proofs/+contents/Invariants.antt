@@ -8,7 +8,7 @@ abbrev pub decreases-contents : goal.decreases-contents
 decreases-contents l = l.levels
 
 abbrev pub invariant-loop-next : goal.invariant-loop-next
-invariant-loop-next l = (l.levels < most_levels) × Inside l.tree l.b (most_levels - l.levels) l.from l.initial.all l.at l.all
+invariant-loop-next l = (l.levels < most_levels) × Inside l.tree l.b (most_levels - l.levels) l.from l.initial.found l.at l.found
 
 abbrev pub decreases-loop-next : goal.decreases-loop-next
 decreases-loop-next l = l.b.end - l.at

@@ -1,10 +1,14 @@
 -- `walk::closed_tree` meets its contract. Assumes nothing.
-use mathlib.Core.Path.{sym, ◌∙◌}
-use Rattle.walk.proofs.Whole.{closes-refused, closes-accepted}
+use Rattle.std.specs.Prelude.{Err}
+use mathlib.Core.Path.{◌≡◌}
+use borrow.Author.Rules.{rules}
+use Rattle.walk.proofs.Whole.{closes}
 use Rattle.walk.proofs.closed_tree.Goals as goal
 
-pub returns-then-number-ne0 : goal.returns-then-number-ne0
-returns-then-number-ne0 c = closes-refused _ _ _ _ c.last_at-last.ensures (λ z. c.if-number-ne0.true (c.number.ensures ∙ z)) c.refused_tree.ensures
+pub returns-in_err-last_at : goal.returns-in_err-last_at
+returns-in_err-last_at c =
+    let r : c.from_residual.result ≡ Err c.in_err-last_at.field-0.0 = search rules in
+    rw r (closes _ _ _ _ c.in_err-last_at.ensures)
 
 pub returns : goal.returns
-returns c = closes-accepted _ _ _ _ c.last_at-last.ensures (sym c.number.ensures ∙ c.if-number-ne0.false)
+returns c = closes _ _ _ _ c.in_ok-last_at.ensures

@@ -1,5 +1,6 @@
 -- `walk::last_at` meets its contract. The loop's invariant is `Outside`. Assumes nothing.
 use mathlib.Core.Path.{sym, ◌∙◌}
+use mathlib.Core.Logic.{inl, inr}
 use native.Mathlib.Omega.{arith}
 use Rattle.tokens.proofs.TokenList.{nop-moves}
 use Rattle.walk.proofs.Outside.{outside-begins, outside-nop, end-room, last-accepted, last-early, last-begin, last-end-node, last-property, last-fault}
@@ -9,28 +10,27 @@ pub loop-next-init : goal.loop-next-init
 loop-next-init c = outside-begins _ _ _ _
 
 pub loop-next-smaller : goal.loop-next-smaller
-loop-next-smaller c = let m = nop-moves _ _ _ (sym c.step-step.ensures.value ∙ c.in-Nop.is) in omega (arith, m.room, m.on)
+loop-next-smaller c = let m = nop-moves _ _ _ (sym c.step.ensures.value ∙ c.in-Nop.is) in omega (arith, m.room, m.on)
 
 pub loop-next-preserved : goal.loop-next-preserved
-loop-next-preserved c = outside-nop c.loop-next.invariant (sym c.step-step.ensures.value ∙ c.in-Nop.is)
+loop-next-preserved c = outside-nop c.loop-next.invariant (sym c.step.ensures.value ∙ c.in-Nop.is)
 
-pub overflow_add-t : goal.overflow_add-t
-overflow_add-t c = omega (arith, end-room _ _ _ (sym c.step-step.ensures.value ∙ c.in-End.is))
+pub overflow_add-at : goal.overflow_add-at
+overflow_add-at c = omega (arith, end-room _ _ _ (sym c.step.ensures.value ∙ c.in-End.is))
 
-pub returns-then-t-end : goal.returns-then-t-end
-returns-then-t-end c = last-accepted c.loop-next.invariant (sym c.step-step.ensures.value ∙ c.in-End.is) c.if-t-end.true
+pub returns-then-at-b : goal.returns-then-at-b
+returns-then-at-b c = last-accepted c.loop-next.invariant (sym c.step.ensures.value ∙ c.in-End.is) c.if-at-b.true
 
 pub returns-in-End : goal.returns-in-End
-returns-in-End c = last-early c.loop-next.invariant c.misplaced_after.ensures (sym c.step-step.ensures.value ∙ c.in-End.is) c.if-t-end.false
+returns-in-End c = rw c.at.ensures (last-early c.loop-next.invariant (sym c.step.ensures.value ∙ c.in-End.is) c.if-at-b.false)
 
 pub returns-in-BeginNode : goal.returns-in-BeginNode
-returns-in-BeginNode c = last-begin c.loop-next.invariant c.misplaced_after-in-BeginNode.ensures (sym c.step-step.ensures.value ∙ c.in-BeginNode.is)
-
-pub returns-in-EndNode : goal.returns-in-EndNode
-returns-in-EndNode c = last-end-node c.loop-next.invariant c.misplaced_after-in-EndNode.ensures (sym c.step-step.ensures.value ∙ c.in-EndNode.is)
-
-pub returns-in-Property : goal.returns-in-Property
-returns-in-Property c = last-property c.loop-next.invariant c.misplaced_after-in-Property.ensures (sym c.step-step.ensures.value ∙ c.in-Property.is)
-
-pub returns-in-Fault : goal.returns-in-Fault
-returns-in-Fault c = last-fault c.loop-next.invariant c.misplaced_after-in-Fault.ensures (sym c.step-step.ensures.value ∙ c.in-Fault.is)
+returns-in-BeginNode c =
+    let l = c.loop-next.invariant in
+    rw c.at-in-BeginNode.ensures
+    (elim c.in-BeginNode.is [
+      | inl h ↦ last-begin l (sym c.step.ensures.value ∙ h.1)
+      | inr (inl h) ↦ last-end-node l (sym c.step.ensures.value ∙ h.1)
+      | inr (inr (inl h)) ↦ last-property l (sym c.step.ensures.value ∙ h.4)
+      | inr (inr (inr h)) ↦ last-fault l (sym c.step.ensures.value ∙ h)
+    ])

@@ -5,7 +5,7 @@ use Rattle.walk.proofs.Outside.{Outside}
 use Rattle.walk.proofs.last_at.Given as goal
 
 abbrev pub invariant-loop-next : goal.invariant-loop-next
-invariant-loop-next l = Outside l.tree l.b after_root l.from l.at
+invariant-loop-next l = Outside l.tree l.b after_root l.from l.cursor.at
 
 abbrev pub decreases-loop-next : goal.decreases-loop-next
-decreases-loop-next l = l.b.end - l.at
+decreases-loop-next l = l.b.end - l.cursor.at

@@ -1,17 +1,19 @@
 -- `walk::walk_tree` meets its contract. Assumes nothing.
-use mathlib.Core.Path.{◌∙◌}
-use Rattle.walk.proofs.Whole.{read_past, read-stop, root-refused, contents-refused, all_closed}
+use Rattle.std.specs.Prelude.{Err}
+use mathlib.Core.Path.{◌≡◌, ◌∙◌}
+use borrow.Author.Rules.{rules}
+use Rattle.walk.proofs.Whole.{root-refused, contents-refused, all_closed}
 use Rattle.walk.proofs.walk_tree.Goals as goal
 
-pub returns-in-Stop : goal.returns-in-Stop
-returns-in-Stop c = c.refused_tree.ensures ∙ root-refused _ _ (read-stop _ _ _ _ _ _ c.root_at-root.ensures c.in-Stop.is)
+pub returns-in_err-root : goal.returns-in_err-root
+returns-in_err-root c =
+    let r : c.from_residual.result ≡ Err c.in_err-root.field-0.0 = search rules in
+    rw r (root-refused _ _ c.in_err-root.ensures)
 
-pub returns-in-Stop-inner : goal.returns-in-Stop-inner
-returns-in-Stop-inner c =
-    let root = read_past _ _ _ _ _ _ c.root_at-root.ensures c.in-Past.is in
-    c.refused_tree-in-Stop-inner.ensures ∙ contents-refused _ _ root (read-stop _ _ _ _ _ _ c.contents-inner.ensures c.in-Stop-inner.is)
+pub returns-in_err-inner : goal.returns-in_err-inner
+returns-in_err-inner c =
+    let r : c.from_residual-in_err-inner.result ≡ Err c.in_err-inner.field-0.0 = search rules in
+    rw r (contents-refused _ _ c.in_ok-root.ensures.1 c.in_err-inner.ensures)
 
-pub returns-in-Past-inner : goal.returns-in-Past-inner
-returns-in-Past-inner c =
-    let root = read_past _ _ _ _ _ _ c.root_at-root.ensures c.in-Past.is in
-    all_closed _ _ root (read_past _ _ _ _ _ _ c.contents-inner.ensures c.in-Past-inner.is) c.closed_tree.ensures
+pub returns : goal.returns
+returns c = all_closed _ _ c.in_ok-root.ensures.1 c.in_ok-inner.ensures.1 c.closed_tree.ensures
