@@ -1,19 +1,14 @@
 -- What stands next in a node, for each kind of token. Assumes nothing.
 use mathlib.Core.Path.{◌≡◌}
-use mathlib.Core.Bool.{true, false}
 use mathlib.Core.List.{List}
 use Prim.Native.Nat.{ℕ, ◌+◌, ◌*◌, ◌/◌}
-use borrow.Author.Tests.{eq-eqb, ne_eqb}
-use Rattle.strings.specs.Strings.{same_bytes}
 use Rattle.header.specs.declared.Blocks.{Blocks}
 use Rattle.refusal.specs.Refusal.{answer, refuse}
 use Rattle.names.specs.Names.{node_name_at}
 use Rattle.tokens.specs.declared.Cursor.{Cursor}
 use Rattle.tokens.specs.declared.Step.TheVariants.{BeginNode, EndNode, Property, Nop, End, Fault}
 use Rattle.tokens.specs.Steps.{step_at}
-use Rattle.walk.specs.Containers.{container_name}
-use Rattle.walk.specs.declared.Containers.{Containers}
-use Rattle.walk.specs.Parts.{skip, child, close, stop_at, child_part, part_at, note}
+use Rattle.walk.specs.Parts.{skip, child, close, stop_at, child_part, part_at}
 
 module _ (s : List ℕ) (b : Blocks) (t from : ℕ) where
   pub child-good : {n : ℕ} → node_name_at s from b.end ≡ answer n → child t from n (from + (n / 4 + 1) * 4) ≡ child_part s b t from

@@ -1,5 +1,5 @@
 -- The parts of the walk make up the whole. Assumes nothing.
-use mathlib.Core.Path.{◌≡◌, refl, sym, ap, subst, ◌∙◌}
+use mathlib.Core.Path.{◌≡◌, refl, sym, ap, ◌∙◌}
 use mathlib.Core.Bool.{Bool, true, false}
 use mathlib.Core.List.{List, [], ◌∷◌, ◌++◌, append_assoc, append-nil}
 use Prim.Native.Nat.{ℕ, zero, suc, min}
@@ -14,7 +14,7 @@ use Rattle.names.specs.Names.{same_text}
 use Rattle.header.specs.declared.Blocks.{Blocks}
 use Rattle.tokens.specs.Steps.{pick}
 use Rattle.tokens.specs.Tokens.{Token, begin_node, end_node, property, nop, end, fault as fault_token}
-use Rattle.walk.specs.Walk.{State, before_root, in_properties, after_root, parent_of, Verdict, accepted, refused, walk, tree_tokens}
+use Rattle.walk.specs.Walk.{before_root, in_properties, after_root, parent_of, Verdict, accepted, refused, walk, tree_tokens}
 use Rattle.walk.specs.Containers.{container_name, container_offsets, first_two}
 use Rattle.header.specs.Header.{header, no_blocks}
 use Rattle.walk.specs.Checked.{layout_of, no_layout, judge, after_header, check_tree}

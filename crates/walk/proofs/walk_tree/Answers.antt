@@ -1,6 +1,6 @@
 -- `walk::walk_tree` meets its contract. Assumes nothing.
 use Rattle.std.specs.Prelude.{Err}
-use mathlib.Core.Path.{◌≡◌, ◌∙◌}
+use mathlib.Core.Path.{◌≡◌}
 use borrow.Author.Rules.{rules}
 use Rattle.walk.proofs.Whole.{root-refused, contents-refused, all_closed}
 use Rattle.walk.proofs.walk_tree.Goals as goal
