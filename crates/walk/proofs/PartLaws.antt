@@ -44,3 +44,5 @@ module _ (s : List ℕ) (b : Blocks) (at : ℕ) {t : ℕ} where
   pub part-fault : step_at s b.end at ≡ Fault t → stop_at 6 t ≡ part_at s b at
   unfolding part_at
   part-fault e = rw (e, part_at)
+
+pub ruleset parts = (part-begin, part-end-node, part-property, part-nop, part_end, part-fault)

@@ -88,6 +88,7 @@ fn child_item(tree: &[u8], b: Blocks, t: usize, from: usize) -> Result<Item, Ref
 }
 
 // What stands at a place in a node, behind its properties.
+#[tactic(auto, using(crate::proofs::PartLaws::parts))]
 fn item_at(tree: &[u8], b: Blocks, at: usize) -> Result<Item, RefusedAt>
     ensures { part_of result ≡ part_at tree.now b at }
 {
