@@ -1,15 +1,16 @@
 -- Laws of the rows of a table: their words, and a row replaced. Assumes nothing.
-use Prim.Native.Nat.{ℕ, zero, suc, ◌+◌, ◌*◌, ◌≤◌, ◌<◌}
+use Prim.Native.Nat.{ℕ, zero, suc, ◌+◌, ◌-◌, ◌*◌, ◌≤◌, ◌<◌}
 use mathlib.Core.Path.{◌≡◌, refl, sym, ap, subst, ◌∙◌}
 use mathlib.Core.List.{List, [], ◌∷◌, ◌++◌, append_assoc}
 use native.Mathlib.Decide.{dec_lt}
 use native.Mathlib.Nat.{add-zero}
-use native.Mathlib.Numerals.{add-one}
 use native.Mathlib.Omega.{arith}
-use borrow.Author.Count.{below_more}
 use borrow.Author.Tests.{lt-ltb, le-ltb}
-use lib.ListN.{length, get_or, set, take, drop, length-set}
-use lib.Seq.{sets, sets-eq, length-sets, get_or-set_same, get_or-set_other, ext_get_or, length-take-le, take-suc, take_all}
+use lib.ListN.{length, get_or, set, take, drop, length-set, length-take, length-drop}
+use borrow.Rule.Slice.PartMut.{put_mid}
+use Rattle.std.specs.List.{slice_range}
+use Rattle.std.proofs.lemmas.List.{get_or-take, get_or-drop}
+use lib.Seq.{drop-drop, sets, sets-eq, length-sets, get_or-set_same, get_or-set_other, ext_get_or}
 use Rattle.cells.specs.Buffer.{Stays, written}
 use Rattle.cells.proofs.Rows.{length-each, row-at}
 use Rattle.cells.proofs.Writing.{written-writes, nothing-stays}
@@ -31,29 +32,11 @@ pub row_is : (table ws : List ℕ) (i : ℕ) → length ws ≡ set_words → ((v
     → ws ≡ row_at table i
 row_is table ws i e f = ext_get_or 0 ws (row_at table i) (e ∙ sym (length-row table i)) (λ v h. f v (omega arith) ∙ sym (row_word table i v (omega arith)))
 
--- the first w words of a row are read
-pub record ReadTo (table : List ℕ) (i : ℕ) (t : List ℕ) (w : ℕ) : Type 0 where
-  pub within : w ≤ set_words
-  pub size : length t ≡ set_words
-  pub each : (v : ℕ) → v < w → get_or t v 0 ≡ get_or table (set_words * i + v) 0
-
-pub read_none : (table : List ℕ) (i : ℕ) (t : List ℕ) → length t ≡ set_words → ReadTo table i t 0
-read_none table i t e = record { within = omega arith; size = e; each = λ v h. absurd (omega arith) }
-
-pub read_more : (table : List ℕ) (i : ℕ) (t : List ℕ) (w : ℕ) → ReadTo table i t w → w < set_words
-    → ReadTo table i (set t w (get_or table (set_words * i + w) 0)) (w + 1)
-read_more table i t w r h =
-    let x = get_or table (set_words * i + w) 0 in
-    record {
-      within = omega arith;
-      size = length-set t w x ∙ r.size;
-      each =
-          below_more (λ v. get_or (set t w x) v 0 ≡ get_or table (set_words * i + v) 0) w (λ v q. get_or-set_other t w v x 0 (omega arith) ∙ r.each v q)
-          (get_or-set_same t w x 0 (omega (arith, r.size)));
-    }
-
-pub read_all : (table : List ℕ) (i : ℕ) (t : List ℕ) (w : ℕ) → ReadTo table i t w → set_words ≤ w → t ≡ row_at table i
-read_all table i t w r h = row_is table t i r.size (λ v l. r.each v (omega arith))
+-- a row as a part of the table
+pub row-part : (table : List ℕ) (i : ℕ) → set_words * i + set_words ≤ length table → slice_range table (set_words * i) (set_words * i + set_words) ≡ row_at table i
+row-part table i h =
+    row_is table (slice_range table (set_words * i) (set_words * i + set_words)) i (simp (length-take, length-drop) (omega arith))
+    (λ v l. get_or-take (set_words * i + set_words - set_words * i) _ v 0 (omega arith) ∙ get_or-drop (set_words * i) table v 0)
 
 -- a row past the last has no members
 pub row-past : (table : List ℕ) (i : ℕ) → most_features ≤ i → set_of no_members ≡ row_or_none table i
@@ -80,36 +63,6 @@ sets-in l (a ∷ vs) i (suc v) h f =
     let e : i + suc v ≡ suc i + v = omega arith in
     rw e (sets-in (set l i a) vs (suc i) v (omega arith) (omega (arith, length-set l i a)))
 
-sets_more : (l vs : List ℕ) (i a : ℕ) → set (sets l i vs) (i + length vs) a ≡ sets l i (vs ++ a ∷ [])
-sets_more l [] i a = rw (add-zero i)
-sets_more l (b ∷ vs) i a = let e : i + suc (length vs) ≡ suc i + length vs = omega arith in rw e (sets_more (set l i b) vs (suc i) a)
-
--- the first w words of a row are replaced
-pub record PutTo (old : List ℕ) (i : ℕ) (words new : List ℕ) (w : ℕ) : Type 0 where
-  pub within : w ≤ set_words
-  pub same : new ≡ sets old (set_words * i) (take w words)
-
-pub put-none : (old : List ℕ) (i : ℕ) (words : List ℕ) → PutTo old i words old 0
-put-none old i words = record { within = omega arith; same = refl }
-
-pub put-more : (old : List ℕ) (i : ℕ) (words new : List ℕ) (w : ℕ) → length words ≡ set_words → PutTo old i words new w → w < set_words
-    → PutTo old i words (set new (set_words * i + w) (get_or words w 0)) (w + 1)
-put-more old i words new w e r h =
-    let n : length (take w words) ≡ w = length-take-le w words (omega arith) in
-    record {
-      within = omega arith;
-      same =
-          ap (λ (l : List ℕ). set l (set_words * i + w) (get_or words w 0)) r.same
-          ∙ ap (λ (k : ℕ). set (sets old (set_words * i) (take w words)) (set_words * i + k) (get_or words w 0)) (sym n)
-          ∙ sets_more old (take w words) (set_words * i) (get_or words w 0)
-          ∙ ap (sets old (set_words * i)) (sym (take-suc words w 0 (omega arith)) ∙ ap (λ (k : ℕ). take k words) (sym (add-one w)));
-    }
-
-pub put_all : (old : List ℕ) (i : ℕ) (words new : List ℕ) (w : ℕ) → length words ≡ set_words → PutTo old i words new w → set_words ≤ w
-    → new ≡ with_row old i words
-unfolding with_row
-put_all old i words new w e r h = r.same ∙ ap (sets old (set_words * i)) (take_all w words (omega arith))
-
 -- the row is replaced where the table has it
 pub row-put-low : (table : List ℕ) (i : ℕ) (words : List ℕ) → i < most_features → row_put table i words ≡ with_row table i words
 unfolding row_put
@@ -126,6 +79,16 @@ unfolding with_row written
 row_written table i words h =
     sets-eq words table (set_words * i) h
     ∙ append_assoc (take (set_words * i) table) words (drop (set_words * i + length words) table)
+
+-- and as a part of the table
+pub put-part : (table : List ℕ) (i : ℕ) (words : List ℕ) → length words ≡ set_words → set_words * i + set_words ≤ length table
+    → put_mid (set_words * i) (set_words * i + set_words - set_words * i) table words ≡ with_row table i words
+unfolding written
+put-part table i words e h =
+    let k : ℕ = set_words * i + set_words - set_words * i in
+    let q : set_words * i + k ≡ set_words * i + length words = omega arith in
+    ap (λ (l : List ℕ). take (set_words * i) table ++ (words ++ l)) (drop-drop k (set_words * i) table ∙ ap (λ (n : ℕ). drop n table) q)
+    ∙ sym (row_written table i words (omega arith))
 
 pub row_stays : (table : List ℕ) (i : ℕ) (words : List ℕ) → length table ≡ table_words → length words ≡ set_words
     → Stays table (set_words * i) set_words (row_put table i words)

@@ -1,12 +1,15 @@
 -- Laws of the slots of a position: how many it uses, and the set of them. Assumes nothing.
-use Prim.Native.Nat.{ℕ, ◌+◌, ◌*◌, ◌≤◌, ◌<◌}
+use Prim.Native.Nat.{ℕ, ◌+◌, ◌-◌, ◌*◌, ◌≤◌, ◌<◌}
 use mathlib.Core.Path.{◌≡◌, refl, ap, ◌∙◌}
 use mathlib.Core.Bool.{Bool, ◌||◌}
 use mathlib.Core.List.{List}
 use native.Mathlib.Numerals.{add-one}
 use borrow.Author.Tests.{lt-ltb, le-ltb}
 use lib.Dec.{eqb}
-use lib.ListN.{get_or}
+use lib.ListN.{length, get_or, length-take, length-drop}
+use native.Mathlib.Omega.{arith}
+use Rattle.std.specs.List.{slice_range}
+use Rattle.std.proofs.lemmas.List.{get_or-take, get_or-drop}
 use Rattle.positions.specs.Below.{some}
 use Rattle.positions.specs.Sets.{set_of, no_members, with_member}
 use Rattle.positions.proofs.MemberLaws.{has-set-of, set-of-same}
@@ -22,6 +25,15 @@ used_low counts i h = rw (lt-ltb i most_features h)
 pub used-past : (counts : List ℕ) (i : ℕ) → most_features ≤ i → 0 ≡ used_slots counts i
 unfolding used_slots
 used-past counts i h = rw (le-ltb i most_features h)
+
+-- the first n slots of a position, as a part of all
+module _ (slots : List ℕ) (i n : ℕ) where
+  pub own-slot : (j : ℕ) → j < n → get_or (slice_range slots (most_dependencies * i) (most_dependencies * i + n)) j 0 ≡ get_or slots (most_dependencies * i + j) 0
+  own-slot j h =
+      get_or-take (most_dependencies * i + n - most_dependencies * i) _ j 0 (omega arith) ∙ get_or-drop (most_dependencies * i) slots j 0
+
+  pub length-own : most_dependencies * i + n ≤ length slots → length (slice_range slots (most_dependencies * i) (most_dependencies * i + n)) ≡ n
+  length-own h = simp (length-take, length-drop) (omega arith)
 
 -- the set of the slots read
 pub slots-none : (slots : List ℕ) (i : ℕ) → set_of no_members ≡ slot_set slots i 0

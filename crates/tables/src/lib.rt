@@ -19,58 +19,37 @@ pub struct Rows {
     pub words: [u64; TABLE_WORDS],
 }
 
-// A slot as a position.
-fn wide(x: u16) -> usize
-    ensures { result ≡ x }
-{
-    x as usize
-}
-
-// A count of slots as a number of rounds.
-fn amount(x: u8) -> usize
-    ensures { result ≡ x }
-{
-    x as usize
-}
-
-// The set in a row of a table, empty from row 64 on: a round and one read for each word of a row.
+// The set in a row of a table, empty from row 64 on: its words are copied.
 pub fn row(table: &[u64; TABLE_WORDS], i: usize) -> Set
     ensures { result.words ≡ row_or_none table.now i }
 {
     let mut s = positions::empty();
-    if MOST_FEATURES <= i {
-        return s;
-    }
-    let mut w: usize = 0;
-    while w < WORDS {
-        s.words[w] = table[WORDS * i + w];
-        w += 1;
+    if i < MOST_FEATURES {
+        let first = WORDS * i;
+        s.words.copy_from_slice(&table[first..first + WORDS]);
     }
     s
 }
 
-// A row of a table is replaced; there are 64, and none past the last: a round and one write for each word of a row.
+// A row of a table is replaced; there are 64, and none past the last: the words of the set are copied.
 pub fn put_row(table: &mut [u64; TABLE_WORDS], i: usize, s: Set)
     ensures { table.new ≡ row_put table.old i s.words }
 {
     if i >= MOST_FEATURES {
         return;
     }
-    let mut w: usize = 0;
-    while w < WORDS {
-        table[WORDS * i + w] = s.words[w];
-        w += 1;
-    }
+    let first = WORDS * i;
+    table[first..first + WORDS].copy_from_slice(&s.words);
 }
 
 // How many of its sixteen slots a position uses; none past the last of 64.
+#[tactic(auto, unfolding(crate::specs::Slots::used_slots))]
 pub fn used(counts: &[u8; MOST_FEATURES], i: usize) -> usize
     ensures { result ≡ used_slots counts.now i }
 {
-    if i < MOST_FEATURES {
-        return cells::least(amount(counts[i]), MOST_DEPENDENCIES);
-    }
-    0
+    counts
+        .get(i)
+        .map_or(0, |n| usize::from(*n).min(MOST_DEPENDENCIES))
 }
 
 // The set of the first `n` slots of position `i`: a round for each slot, which changes one word.
@@ -78,11 +57,10 @@ fn dependencies(slots: &[u16; SLOTS], i: usize, n: usize) -> Set
     requires { (i < most_features) × (n ≤ most_dependencies) }
     ensures { result.words ≡ slot_set slots.now i n }
 {
+    let first = MOST_DEPENDENCIES * i;
     let mut s = positions::empty();
-    let mut j: usize = 0;
-    while j < n {
-        s = positions::insert(s, wide(slots[MOST_DEPENDENCIES * i + j]));
-        j += 1;
+    for slot in &slots[first..first + n] {
+        s = positions::insert(s, usize::from(*slot));
     }
     s
 }
@@ -91,36 +69,34 @@ fn dependencies(slots: &[u16; SLOTS], i: usize, n: usize) -> Set
 pub fn dependency_rows(slots: &[u16; SLOTS], counts: &[u8; MOST_FEATURES], n: usize) -> Rows
     ensures { result.words ≡ dependency_table slots.now counts.now n }
 {
-    let rows = cells::least(n, MOST_FEATURES);
-    let mut words: [u64; TABLE_WORDS] = [0; TABLE_WORDS];
-    let mut i: usize = 0;
-    while i < rows {
+    let rows = n.min(MOST_FEATURES);
+    let mut words = [0; TABLE_WORDS];
+    for i in 0..rows {
         put_row(&mut words, i, dependencies(slots, i, used(counts, i)));
-        i += 1;
     }
     Rows { words }
 }
 
 // A set with `i` where the set `x` is inside `p`.
+#[tactic(auto, unfolding(crate::specs::Parts::added_in))]
 fn added(s: Set, x: Set, p: Set, i: usize) -> Set
     ensures { result.words ≡ added_in s.words x.words p.words i }
 {
     if sets::subset(x, p) {
-        return positions::insert(s, i);
+        positions::insert(s, i)
+    } else {
+        s
     }
-    s
 }
 
 // Those of the first `n` positions whose rows hold only members of `p`: at most 64 rounds, each of one row: a read and a test a word.
 pub fn inside_rows(table: &[u64; TABLE_WORDS], n: usize, p: Set) -> Set
     ensures { result.words ≡ rows_inside table.now (min n most_features) p.words }
 {
-    let m = cells::least(n, MOST_FEATURES);
+    let m = n.min(MOST_FEATURES);
     let mut s = positions::empty();
-    let mut i: usize = 0;
-    while i < m {
+    for i in 0..m {
         s = added(s, row(table, i), p, i);
-        i += 1;
     }
     s
 }

@@ -1,4 +1,4 @@
--- `tables::dependency_rows` meets its contract. The loop: the rows passed are those of the slots. Assumes nothing.
+-- `tables::dependency_rows` meets its contract. Assumes nothing.
 use mathlib.Core.Path.{◌∙◌}
 use native.Mathlib.Omega.{arith}
 use Rattle.tables.proofs.RowLaws.{row-put-low}
@@ -8,18 +8,16 @@ use Rattle.tables.proofs.DependencyLaws.{slots-row, rows_all}
 use Rattle.tables.proofs.dependency_rows.Goals as goal
 
 pub loop-i-init : goal.loop-i-init
-loop-i-init c = (omega arith, zero-table _)
+loop-i-init c = zero-table _
 
 pub dependencies-requires : goal.dependencies-requires
 dependencies-requires c = let used = c.used.ensures ∙ used_low _ _ (omega arith) in (omega arith, omega arith)
 
 pub loop-i-preserved : goal.loop-i-preserved
 loop-i-preserved c =
-    let rows = c.loop-i.invariant.1 in
-    let used = c.used.ensures ∙ used_low _ _ (omega arith) in (
-      omega arith,
-      c.put_row.ensures ∙ row-put-low _ _ _ (omega arith) ∙ table_more _ _ _ _ rows (c.dependencies.ensures ∙ slots-row _ _ _ used) (omega arith),
-    )
+    let used = c.used.ensures ∙ used_low _ _ (omega arith) in
+    c.put_row.ensures ∙ row-put-low _ _ _ (omega arith)
+    ∙ table_more _ _ _ _ c.loop-i.invariant (c.dependencies.ensures ∙ slots-row _ _ _ used) (omega arith)
 
 pub returns : goal.returns
-returns c = rows_all _ _ _ _ _ c.loop-i.invariant.1 (omega arith)
+returns c = rows_all _ _ _ _ _ c.loop-i.invariant (omega arith)
