@@ -1,14 +1,13 @@
 -- Gathering the children of a node, token by token: what is left decides the whole. Assumes nothing.
 use mathlib.Core.Path.{◌≡◌, refl, sym, ap, ◌∙◌}
-use mathlib.Core.Bool.{Bool, true, false}
 use mathlib.Core.List.{List, [], ◌∷◌, ◌++◌, map, append_assoc, append-nil}
-use Prim.Native.Nat.{ℕ, zero, suc, ◌+◌, ◌<◌, ◌≤◌}
+use Prim.Native.Nat.{ℕ, ◌+◌, ◌<◌, ◌≤◌}
 use native.Mathlib.Omega.{arith}
 use borrow.Author.Tests.{lt-ltb, le-ltb}
-use lib.ListN.{length, take, set, replicate, length-append, length-map}
+use lib.ListN.{length, take, set, length-append}
 use lib.Seq.{take_all, take-append_seam}
+use Rattle.std.specs.Prelude.{Option, None, Some}
 use Rattle.cells.specs.Rows.{padded}
-use Rattle.cells.proofs.Rows.{length-padded}
 use Rattle.header.specs.declared.Blocks.{Blocks}
 use Rattle.walk.specs.Walk.{name_in, tree_tokens}
 use Rattle.record.specs.Record.{most_features}
@@ -16,7 +15,7 @@ use Rattle.nodes.specs.declared.Move.TheVariants.{Child, Past}
 use Rattle.nodes.specs.declared.NodePlace.{NodePlace}
 use Rattle.nodes.specs.declared.ChildPlaces.{ChildPlaces}
 use Rattle.nodes.specs.Nodes.{Node, node_at, children_at}
-use Rattle.nodes.specs.Places.{no_place, place_of, child_places}
+use Rattle.nodes.specs.Places.{no_place, place_of, over_of, child_places}
 use Rattle.nodes.specs.Parts.{Moved, child, past}
 use Rattle.nodes.proofs.MoveLaws.{children-past}
 use Rattle.nodes.proofs.RowLaws.{row_more}
@@ -27,15 +26,16 @@ unfolding node_at
 node-seam [] n ms = refl
 node-seam (m ∷ ns) n ms = node-seam ns n ms
 
-node-none : (ns : List Node) (i : ℕ) → length ns ≤ i → (node_at ns i).at ≡ 0
-unfolding node_at
-node-none [] i h = refl
-node-none (n ∷ ns) zero h = absurd (omega arith)
-node-none (n ∷ ns) (suc i) h = node-none ns i (omega arith)
+-- where one more than may be taken begins, and none where there are not so many
+no-more : (ns : List Node) → length ns ≤ most_features → over_of ns ≡ None
+no-more ns h = rw (le-ltb most_features (length ns) h)
 
-same-places : {c d : ℕ} {m n : Bool} {o p : ℕ} {ps qs : List NodePlace} → c ≡ d → m ≡ n → o ≡ p → ps ≡ qs
-    → ◌≡◌ {A = ChildPlaces} (record { count = c; more = m; over = o; places = ps }) (record { count = d; more = n; over = p; places = qs })
-same-places e f g h = rw (e, f, g, h)
+one-more : (ns : List Node) → most_features < length ns → over_of ns ≡ Some (node_at ns most_features).at
+one-more ns h = rw (lt-ltb most_features (length ns) h)
+
+same-places : {c d : ℕ} {o p : Option ℕ} {ps qs : List NodePlace} → c ≡ d → o ≡ p → ps ≡ qs
+    → ◌≡◌ {A = ChildPlaces} (record { count = c; over = o; places = ps }) (record { count = d; over = p; places = qs })
+same-places e f g = rw (e, f, g)
 
 module _ (tree : List ℕ) (b : Blocks) where
   abbrev row : List Node → List NodePlace
@@ -47,39 +47,17 @@ module _ (tree : List ℕ) (b : Blocks) where
     pub split : children_at 0 (tree_tokens tree b first) ≡ taken ++ children_at depth (tree_tokens tree b at)
     pub few : length taken ≤ most_features
     pub count : fs.count ≡ length taken
-    pub more : fs.more ≡ false
-    pub over : fs.over ≡ 0
+    pub over : fs.over ≡ None
     pub places : fs.places ≡ row taken
     pub low : depth ≤ at
-
-  abbrev start : ChildPlaces
-  start = record { count = 0; more = false; over = 0; places = replicate most_features no_place }
-
-  pub gather-begins : (first : ℕ) → Gathering first start 0 first
-  gather-begins first =
-      record {
-        taken = [];
-        split = refl;
-        few = omega arith;
-        count = refl;
-        more = refl;
-        over = refl;
-        places = refl;
-        low = omega arith;
-      }
 
   module _ {first : ℕ} {fs : ChildPlaces} {depth at : ℕ} (g : Gathering first fs depth at) where
     abbrev all : List Node
     all = children_at 0 (tree_tokens tree b first)
 
-    pub gather-size : length fs.places ≡ most_features
-    gather-size =
-        let l = length-map g.taken (place_of b.end) in
-        ap length g.places ∙ length-padded most_features no_place (map (place_of b.end) g.taken) (omega (arith, l, g.few))
-
     -- a child begins
     abbrev with : ℕ → NodePlace → ChildPlaces
-    with n p = record { count = n + 1; more = fs.more; over = fs.over; places = set fs.places n p }
+    with n p = record { count = n + 1; over = fs.over; places = set fs.places n p }
 
     pub gather-child : {t name next : ℕ} → Moved tree b depth at (Child t name next) → fs.count < most_features
         → Gathering first (with fs.count (record { at = t; name = name; behind = next })) 1 next
@@ -92,7 +70,6 @@ module _ (tree : List ℕ) (b : Blocks) where
               ∙ sym (append_assoc g.taken (n ∷ []) (children_at 1 (tree_tokens tree b next)));
           few = omega (arith, g.count, length-append g.taken (n ∷ []));
           count = omega (arith, g.count, length-append g.taken (n ∷ []));
-          more = g.more;
           over = g.over;
           places =
               rw (g.places, g.count)
@@ -109,7 +86,6 @@ module _ (tree : List ℕ) (b : Blocks) where
           split = g.split ∙ ap (λ (ns : List Node). g.taken ++ ns) e;
           few = g.few;
           count = g.count;
-          more = g.more;
           over = g.over;
           places = g.places;
           low = l;
@@ -124,13 +100,12 @@ module _ (tree : List ℕ) (b : Blocks) where
         rw whole
         (same-places
         (omega (arith, g.count, g.few))
-        (g.more ∙ sym (le-ltb most_features (length g.taken) g.few))
-        (g.over ∙ sym (node-none g.taken most_features g.few))
+        (g.over ∙ sym (no-more g.taken g.few))
         (g.places ∙ ap row (sym (take_all most_features g.taken g.few))))
 
     -- there is one more than may be taken
     abbrev overfull : ℕ → ChildPlaces
-    overfull t = record { count = fs.count; more = true; over = t; places = fs.places }
+    overfull t = record { count = fs.count; over = Some t; places = fs.places }
 
     pub gathered-over : {t name next : ℕ} → Moved tree b depth at (Child t name next) → most_features ≤ fs.count
         → overfull t ≡ child_places b.end all
@@ -144,8 +119,9 @@ module _ (tree : List ℕ) (b : Blocks) where
         rw whole
         (same-places
         (omega (arith, g.count))
-        (sym (lt-ltb most_features (length (g.taken ++ rest)) m))
+        (ap Some
         (ap (λ (q : NodePlace). q.at) (sym p)
         ∙ ap (λ (o : Node). o.at) (sym (node-seam g.taken n _))
         ∙ ap (λ (i : ℕ). (node_at (g.taken ++ rest) i).at) (sym k))
+        ∙ sym (one-more (g.taken ++ rest) m))
         (g.places ∙ ap row (sym (take-append_seam g.taken rest) ∙ ap (λ (i : ℕ). take i (g.taken ++ rest)) (sym k))))

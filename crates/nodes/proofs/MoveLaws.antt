@@ -130,11 +130,3 @@ module _ (tree : List ℕ) (b : Blocks) where
     pub move-fault : {t : ℕ} → step_at tree b.end at ≡ Fault t → Moved tree b depth at (Past depth b.end)
     unfolding children_at
     move-fault e = none_left (rw (tokens-step tree b.end (name_in tree b) at e))
-
-  -- a move goes on
-  module _ (depth at : ℕ) where
-    pub child-on : {t name next : ℕ} → Moved tree b depth at (Child t name next) → at < next
-    child-on (child e p on) = on
-
-    pub past-on : {d next : ℕ} → Moved tree b depth at (Past d next) → at < next
-    past-on (past e on l) = on

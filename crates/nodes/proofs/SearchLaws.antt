@@ -1,16 +1,16 @@
 -- The search for the first position that is the same as an earlier one, row by row. Assumes nothing.
-use mathlib.Core.Path.{◌≡◌, refl, ◌∙◌}
+use mathlib.Core.Path.{◌≡◌, refl, sym, ◌∙◌}
 use mathlib.Core.Bool.{Bool, true, false}
 use mathlib.Core.List.{List}
 use Prim.Native.Nat.{ℕ, ◌+◌, ◌<◌, ◌≤◌}
 use native.Mathlib.Omega.{arith}
 use native.Mathlib.Decide.{dec_lt}
-use lib.ListN.{get_or}
+use lib.ListN.{get_or, take}
+use lib.Seq.{get_or-take}
+use Rattle.std.specs.Prelude.{Option, None, Some}
 use Rattle.strings.specs.Strings.{text_at}
 use Rattle.names.specs.Names.{same_text}
 use Rattle.nodes.specs.declared.NodePlace.{NodePlace}
-use Rattle.positions.specs.declared.Position.{Position}
-use Rattle.positions.specs.declared.Position.TheVariants.{Nowhere, At}
 use Rattle.positions.specs.Below.{some}
 use Rattle.positions.proofs.BelowLaws.{no_way, some_at, some_is}
 use Rattle.positions.proofs.FirstLaws.{IsFirst, first-that, first-is}
@@ -18,10 +18,11 @@ use Rattle.nodes.specs.Places.{no_place, same_names, first_repeated}
 use Rattle.nodes.specs.Parts.{FirstRepeated}
 
 -- the test of two names, as the code makes it
-pub same-is : (tree : List ℕ) (stop : ℕ) (ps : List NodePlace) (i j : ℕ) {p : NodePlace} {r : Bool} → p ≡ get_or ps i no_place
-    → r ≡ same_text (text_at tree (get_or ps j no_place).name stop) (text_at tree p.name stop) → r ≡ same_names tree stop ps i j
-unfolding same_names
-same-is tree stop ps i j e k = k ∙ rw e
+module _ (tree : List ℕ) (stop : ℕ) (ps : List NodePlace) {i j n : ℕ} (h : i < n) (k : j < i) where
+  pub same-is : {r : Bool} → r ≡ same_text (text_at tree (get_or (take i ps) j no_place).name stop) (text_at tree (get_or (take n ps) i no_place).name stop)
+      → same_names tree stop ps i j ≡ r
+  unfolding same_names
+  same-is e = sym (e ∙ rw (get_or-take i ps j no_place k, get_or-take n ps i no_place h))
 
 -- some position passes a test, or none
 none_pass : (n : ℕ) (p : ℕ → Bool) → ((j : ℕ) → j < n → p j ≡ false) → some n p ≡ false
@@ -40,15 +41,15 @@ none_passes n p h j l = go (p j) refl
 
 module _ (same : ℕ → ℕ → Bool) (n : ℕ) where
   -- what the definition says, both ways
-  first-repeats : (r : Position) → IsFirst n (λ (i : ℕ). some i (same i)) r → FirstRepeated same n r
-  first-repeats Nowhere f = λ i j l k. none_passes i (same i) (f i l) j k
-  first-repeats (At r) f =
+  first-repeats : (r : Option ℕ) → IsFirst n (λ (i : ℕ). some i (same i)) r → FirstRepeated same n r
+  first-repeats None f = λ i j l k. none_passes i (same i) (f i l) j k
+  first-repeats (Some r) f =
       let j = some_is r (same r) f.1 in
       (f.0, λ i k l m. none_passes i (same i) (f.2 i l) k m, (j.0, (j.1, j.2)))
 
-  repeats-first : (r : Position) → FirstRepeated same n r → IsFirst n (λ (i : ℕ). some i (same i)) r
-  repeats-first Nowhere f = λ i l. none_pass i (same i) (λ j k. f i j l k)
-  repeats-first (At r) f =
+  repeats-first : (r : Option ℕ) → FirstRepeated same n r → IsFirst n (λ (i : ℕ). some i (same i)) r
+  repeats-first None f = λ i l. none_pass i (same i) (λ j k. f i j l k)
+  repeats-first (Some r) f =
       let j = f.2 in
       (f.0, some_at r (same r) j.0 j.1.0 j.1.1, λ i l. none_pass i (same i) (λ k m. f.1 i k l m))
 
@@ -56,7 +57,7 @@ module _ (same : ℕ → ℕ → Bool) (n : ℕ) where
   unfolding first_repeated
   is-repeated = first-repeats (first_repeated same n) (first-that n (λ (i : ℕ). some i (same i)))
 
-  repeated-is : (r : Position) → FirstRepeated same n r → r ≡ first_repeated same n
+  repeated-is : (r : Option ℕ) → FirstRepeated same n r → r ≡ first_repeated same n
   unfolding first_repeated
   repeated-is r f = first-is n (λ (i : ℕ). some i (same i)) (repeats-first r f)
 
@@ -72,12 +73,6 @@ module _ (same : ℕ → ℕ → Bool) (n : ℕ) where
     pub before : (k j : ℕ) → k < i → j < k → same k j ≡ false
     pub other : (k : ℕ) → k < j → same i k ≡ false
 
-  pub search-begins : Searched 0
-  search-begins = record { low = omega arith; before = λ k j h l. absurd (omega arith) }
-
-  pub row-begins : {i : ℕ} → Searched i → i < n → Compared i 0
-  row-begins s h = record { row = h; low = omega arith; before = s.before; other = λ k l. absurd (omega arith) }
-
   pub row_more : {i j : ℕ} → Compared i j → j < i → same i j ≡ false → Compared i (j + 1)
   row_more {i} {j} c h e = record { row = c.row; low = omega arith; before = c.before; other = λ k l. go k l (dec_lt k j) }
     where
@@ -85,15 +80,8 @@ module _ (same : ℕ → ℕ → Bool) (n : ℕ) where
       go k l (yes m) = c.other k m
       go k l (no m) = let q : k ≡ j = omega arith in rw q e
 
-  pub row_done : {i j : ℕ} → Compared i j → i ≤ j → Searched (i + 1)
-  row_done {i} {j} c h = record { low = omega (arith, c.row); before = λ k l m o. go k l m o (dec_lt k i) }
-    where
-      go : (k l : ℕ) → k < i + 1 → l < k → Dec (k < i) → same k l ≡ false
-      go k l m o (yes p) = c.before k l p o
-      go k l m o (no p) = let q : k ≡ i = omega arith in rw q (c.other l (omega arith))
+  pub search-found : {i : ℕ} (j : ℕ) → Compared i j → j < i → same i j ≡ true → Some i ≡ first_repeated same n
+  search-found {i} j c h e = repeated-is (Some i) (c.row, c.before, (j, (h, e)))
 
-  pub search-found : {i : ℕ} (j : ℕ) → Compared i j → j < i → same i j ≡ true → At i ≡ first_repeated same n
-  search-found {i} j c h e = repeated-is (At i) (c.row, c.before, (j, (h, e)))
-
-  pub search-none : {i : ℕ} → Searched i → n ≤ i → Nowhere ≡ first_repeated same n
-  search-none s h = repeated-is Nowhere (λ k j l m. s.before k j (omega arith) m)
+  pub search-none : {i : ℕ} → Searched i → n ≤ i → None ≡ first_repeated same n
+  search-none s h = repeated-is None (λ k j l m. s.before k j (omega arith) m)

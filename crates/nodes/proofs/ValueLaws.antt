@@ -6,7 +6,6 @@ use Prim.Native.Nat.{ℕ, ◌+◌, ◌<◌, ◌≤◌}
 use native.Mathlib.Omega.{arith}
 use lib.ListN.{length, take, drop, length-take, length-drop}
 use borrow.Author.Tests.{le-leb, lt-leb}
-use mathlib.Core.Logic.{◌⊎◌, inl, inr}
 use Rattle.strings.specs.Strings.{Text, ended}
 use Rattle.header.specs.declared.Blocks.{Blocks}
 use Rattle.names.specs.Names.{same_text}
@@ -17,17 +16,17 @@ use Rattle.tokens.specs.Steps.{padded, step_at}
 use Rattle.tokens.specs.Tokens.{fault, tokens}
 use Rattle.tokens.proofs.TokenList.{tokens-step, follow, view, Is, begins, ends, holds, skips, stops, cut, unknown, none, seen}
 use Rattle.walk.specs.Walk.{tree_tokens}
-use Rattle.nodes.specs.declared.Held.TheVariants.{Missing, At}
-use Rattle.nodes.specs.Places.{tokens_in, held_in}
+use Rattle.std.specs.Prelude.{None, Some}
+use Rattle.nodes.specs.Places.{tokens_in, extent, held_in}
 
 -- a run of bytes that lies in a list is as long as it says
 pub length_run : (s : List ℕ) (from size : ℕ) → from + size ≤ length s → length (take size (drop from s)) ≡ size
 length_run s from size h = omega (arith, length-take size (drop from s), length-drop from s)
 
 held-is : {s : List ℕ} {stop at p v l o : ℕ} {c : Cursor} → Is s stop at (Property p v l o c) → stop ≤ length s
-    → At v l ≡ At (p + 12) (length (take l (drop v s)))
+    → Some (extent v l) ≡ Some (extent (p + 12) (length (take l (drop v s))))
 unfolding padded
-held-is {s} {stop} {at} {l = l} (holds r e) h = ap (At (at + 12)) (sym (length_run s (at + 12) l (omega arith)))
+held-is {s} {stop} {at} {l = l} (holds r e) h = ap (λ (k : ℕ). Some (extent (at + 12) k)) (sym (length_run s (at + 12) l (omega arith)))
 
 module _ (s : List ℕ) (stop : ℕ) (names : ℕ → Text) (at : ℕ) where
   -- no token stands past the end of the block
@@ -45,7 +44,7 @@ module _ (s : List ℕ) (stop : ℕ) (names : ℕ → Text) (at : ℕ) where
       go (none r) = refl
 
   module _ (n : List ℕ) where
-    pub held-past : stop ≤ at → held_in n (tokens s stop names at) ≡ Missing
+    pub held-past : stop ≤ at → held_in n (tokens s stop names at) ≡ None
     unfolding held_in
     held-past h = rw (tokens-past h)
 
@@ -54,22 +53,22 @@ module _ (s : List ℕ) (stop : ℕ) (names : ℕ → Text) (at : ℕ) where
     held-nop e = rw (tokens-step s stop names at e)
 
     -- neither a property nor a no-operation
-    pub held_none : {x : Step}
-        → x ≡ step_at s stop at
-        → ((p : ℕ) × (c : Cursor) × (x ≡ BeginNode p c)) ⊎ (((p : ℕ) × (c : Cursor) × (x ≡ EndNode p c)) ⊎ (((p : ℕ) × (x ≡ End p)) ⊎ ((p : ℕ) × (x ≡ Fault p))))
-        → held_in n (tokens s stop names at) ≡ Missing
+    pub held_none : (x : Step) → x ≡ step_at s stop at → ((p v l o : ℕ) (c : Cursor) → x ≡ Property p v l o c → ⊥) → ((p : ℕ) (c : Cursor) → x ≡ Nop p c → ⊥)
+        → held_in n (tokens s stop names at) ≡ None
     unfolding held_in
-    held_none e (inl w) = rw (tokens-step s stop names at (sym e ∙ w.2))
-    held_none e (inr (inl w)) = rw (tokens-step s stop names at (sym e ∙ w.2))
-    held_none e (inr (inr (inl w))) = rw (tokens-step s stop names at (sym e ∙ w.1))
-    held_none e (inr (inr (inr w))) = rw (tokens-step s stop names at (sym e ∙ w.1))
+    held_none (BeginNode p c) e h k = rw (tokens-step s stop names at (sym e))
+    held_none (EndNode p c) e h k = rw (tokens-step s stop names at (sym e))
+    held_none (Property p v l o c) e h k = absurd (h p v l o c refl)
+    held_none (Nop p c) e h k = absurd (k p c refl)
+    held_none (End p) e h k = rw (tokens-step s stop names at (sym e))
+    held_none (Fault p) e h k = rw (tokens-step s stop names at (sym e))
 
     module _ {p v l o : ℕ} {c : Cursor} (e : step_at s stop at ≡ Property p v l o c) {r : Bool} (k : r ≡ same_text (names o) (ended n)) where
       pub held-other : r ≡ false → held_in n (tokens s stop names at) ≡ held_in n (tokens s stop names c.at)
       unfolding held_in
       held-other z = rw (tokens-step s stop names at e, ← k, z)
 
-      pub held-here : r ≡ true → stop ≤ length s → At v l ≡ held_in n (tokens s stop names at)
+      pub held-here : r ≡ true → stop ≤ length s → Some (extent v l) ≡ held_in n (tokens s stop names at)
       unfolding held_in
       held-here z h = held-is (seen s stop at e) h ∙ rw (tokens-step s stop names at e, ← k, z)
 
@@ -79,6 +78,6 @@ module _ (tree : List ℕ) (b : Blocks) (at : ℕ) where
   unfolding tokens_in
   tokens-in h = rw (le-leb b.end (length tree) h)
 
-  pub held-outside : (n : List ℕ) → length tree < b.end → Missing ≡ held_in n (tokens_in tree b at)
+  pub held-outside : (n : List ℕ) → length tree < b.end → None ≡ held_in n (tokens_in tree b at)
   unfolding tokens_in held_in
   held-outside n h = rw (lt-leb b.end (length tree) h)

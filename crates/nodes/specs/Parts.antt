@@ -1,14 +1,11 @@
 -- What the parts of the code answer, and how what the public functions answer relates to the nodes of a tree.
-use Rattle.std.specs.Prelude.{ℕ, ◌+◌, ◌≤◌, ◌<◌, ◌≡◌, Bool, true, false, List, ◌∷◌, length, take, drop, get_or}
+use Rattle.std.specs.Prelude.{ℕ, ◌+◌, ◌≤◌, ◌<◌, ◌≡◌, Bool, true, false, List, ◌∷◌, Option, None, Some, length, take, drop, get_or}
 use Rattle.strings.specs.Strings.{text_at}
 use Rattle.header.specs.declared.Blocks.{Blocks}
 use Rattle.tokens.specs.Tokens.{Token}
 use Rattle.walk.specs.Walk.{tree_tokens}
-use Rattle.positions.specs.declared.Position.{Position}
-use Rattle.positions.specs.declared.Position.TheVariants.{Nowhere, At as PositionAt}
 use Rattle.record.specs.Record.{most_features}
-use Rattle.nodes.specs.declared.Held.{Held}
-use Rattle.nodes.specs.declared.Held.TheVariants.{Missing, At}
+use Rattle.nodes.specs.declared.Extent.{Extent}
 use Rattle.nodes.specs.declared.Move.{Move}
 use Rattle.nodes.specs.declared.Move.TheVariants.{Child, Past}
 use Rattle.nodes.specs.declared.NodePlace.{NodePlace}
@@ -22,9 +19,9 @@ pub record Lies (tree : List ℕ) (v : Value) (from size : ℕ) : Type 0 where
   pub bytes : v ≡ value (take size (drop from tree))
   pub within : from + size ≤ length tree
 
-abbrev pub Shows : List ℕ → Value → Held → Type 0
-Shows tree v Missing = v ≡ missing
-Shows tree v (At from size) = Lies tree v from size
+abbrev pub Shows : List ℕ → Value → Option Extent → Type 0
+Shows tree v None = v ≡ missing
+Shows tree v (Some e) = Lies tree v e.from e.length
 
 -- lists of tokens that begin with the same properties and have the same child nodes
 pub record Alike (ts us : List Token) : Type 0 where
@@ -50,14 +47,14 @@ AreNodes tree b ns ps = (i : ℕ) → i < length ns → IsNode tree b (node_at n
 
 -- the places of all of some nodes, where there are not more than 64
 pub record Gathers (tree : List ℕ) (b : Blocks) (all : List Node) (r : ChildPlaces) : Type 0 where
-  pub many : r.more ≡ true → most_features < length all
-  pub over : (node_at all most_features).at ≡ r.over
-  pub few : r.more ≡ false → length all ≤ most_features
+  pub many : {at : ℕ} → r.over ≡ Some at → most_features < length all
+  pub over : {at : ℕ} → r.over ≡ Some at → (node_at all most_features).at ≡ at
+  pub few : r.over ≡ None → length all ≤ most_features
   pub within : r.count ≤ most_features
-  pub count : r.more ≡ false → r.count ≡ length all
-  pub nodes : r.more ≡ false → AreNodes tree b all r.places
+  pub count : r.over ≡ None → r.count ≡ length all
+  pub nodes : r.over ≡ None → AreNodes tree b all r.places
 
--- the first position below n that is the same as an earlier one; nowhere, where none is
-abbrev pub FirstRepeated : (ℕ → ℕ → Bool) → ℕ → Position → Type 0
-FirstRepeated same n Nowhere = (i j : ℕ) → i < n → j < i → same i j ≡ false
-FirstRepeated same n (PositionAt r) = (r < n) × ((i j : ℕ) → i < r → j < i → same i j ≡ false) × ((j : ℕ) × ((j < r) × (same r j ≡ true)))
+-- the first position below n that is the same as an earlier one; none, where none is
+abbrev pub FirstRepeated : (ℕ → ℕ → Bool) → ℕ → Option ℕ → Type 0
+FirstRepeated same n None = (i j : ℕ) → i < n → j < i → same i j ≡ false
+FirstRepeated same n (Some r) = (r < n) × ((i j : ℕ) → i < r → j < i → same i j ≡ false) × ((j : ℕ) × ((j < r) × (same r j ≡ true)))

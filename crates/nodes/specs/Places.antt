@@ -1,5 +1,5 @@
 -- Where nodes and values lie in a tree: what the public functions answer.
-use Rattle.std.specs.Prelude.{ℕ, ◌+◌, min, Bool, List, [], ◌∷◌, map, leb, ltb, length, take, get_or}
+use Rattle.std.specs.Prelude.{ℕ, ◌+◌, min, Bool, List, [], ◌∷◌, map, Option, None, Some, leb, ltb, length, take, get_or}
 use Rattle.cells.specs.Rows.{padded}
 use Rattle.strings.specs.Strings.{Text, ended, unended, text_at}
 use Rattle.names.specs.Names.{same_text}
@@ -7,13 +7,9 @@ use Rattle.header.specs.declared.Blocks.{Blocks}
 use Rattle.tokens.specs.Steps.{pick}
 use Rattle.tokens.specs.Tokens.{Token, begin_node, end_node, property, nop, end, fault, after_name}
 use Rattle.walk.specs.Walk.{tree_tokens}
-use Rattle.positions.specs.declared.Position.{Position}
 use Rattle.positions.specs.Below.{some, first_that}
 use Rattle.record.specs.Record.{most_features}
-use Rattle.nodes.specs.declared.Held.{Held}
-use Rattle.nodes.specs.declared.Held.TheVariants.{Missing, At}
-use Rattle.nodes.specs.declared.Contents.{Contents}
-use Rattle.nodes.specs.declared.Contents.TheVariants.{At as ContentsAt, Nowhere}
+use Rattle.nodes.specs.declared.Extent.{Extent}
 use Rattle.nodes.specs.declared.NodePlace.{NodePlace}
 use Rattle.nodes.specs.declared.ChildPlaces.{ChildPlaces}
 use Rattle.nodes.specs.Nodes.{Node, node_at}
@@ -22,20 +18,23 @@ use Rattle.nodes.specs.Nodes.{Node, node_at}
 unfoldable pub tokens_in : List ℕ → Blocks → ℕ → List Token
 tokens_in tree b at = pick (leb b.end (length tree)) (tree_tokens tree b at) []
 
+abbrev pub extent : ℕ → ℕ → Extent
+extent from length = record { from = from; length = length }
+
 -- where the value of the property of a name lies, among those that some tokens begin with: behind its token and two cells
-unfoldable pub held_in : List ℕ → List Token → Held
-held_in n [] = Missing
-held_in n (property at name bytes ∷ ts) = pick (same_text name (ended n)) (At (at + 12) (length bytes)) (held_in n ts)
+unfoldable pub held_in : List ℕ → List Token → Option Extent
+held_in n [] = None
+held_in n (property at name bytes ∷ ts) = pick (same_text name (ended n)) (Some (extent (at + 12) (length bytes))) (held_in n ts)
 held_in n (nop at ∷ ts) = held_in n ts
-held_in n (begin_node at name ∷ ts) = Missing
-held_in n (end_node at ∷ ts) = Missing
-held_in n (end at ∷ ts) = Missing
-held_in n (fault at ∷ ts) = Missing
+held_in n (begin_node at name ∷ ts) = None
+held_in n (end_node at ∷ ts) = None
+held_in n (end at ∷ ts) = None
+held_in n (fault at ∷ ts) = None
 
 -- where a node's contents begin: behind its name, which begins at `from`
-unfoldable pub behind_of : ℕ → Text → Contents
-behind_of from (ended name) = ContentsAt (after_name from name)
-behind_of from unended = Nowhere
+unfoldable pub behind_of : ℕ → Text → Option ℕ
+behind_of from (ended name) = Some (after_name from name)
+behind_of from unended = None
 
 -- where to go on behind a begin token, in a block that ends at `stop`: at `stop`, where no token is left, if its name does not end
 abbrev pub next_behind : ℕ → ℕ → Text → ℕ
@@ -50,12 +49,15 @@ no_place = record { at = 0; name = 0; behind = 0 }
 abbrev pub place_of : ℕ → Node → NodePlace
 place_of stop n = record { at = n.at; name = n.at + 4; behind = next_behind (n.at + 4) stop n.name }
 
--- the places of the first 64 of some nodes, whether there are more, and where the next begins; unused places are zero
+-- where the 65th of some nodes begins, if there are so many
+abbrev pub over_of : List Node → Option ℕ
+over_of ns = pick (ltb most_features (length ns)) (Some (node_at ns most_features).at) None
+
+-- the places of the first 64 of some nodes, and where the next begins; unused places are zero
 unfoldable pub child_places : ℕ → List Node → ChildPlaces
 child_places stop ns = record {
   count = min (length ns) most_features;
-  more = ltb most_features (length ns);
-  over = (node_at ns most_features).at;
+  over = over_of ns;
   places = padded most_features no_place (map (place_of stop) (take most_features ns));
 }
 
@@ -63,6 +65,6 @@ child_places stop ns = record {
 unfoldable pub same_names : List ℕ → ℕ → List NodePlace → ℕ → ℕ → Bool
 same_names tree stop ps i j = same_text (text_at tree (get_or ps j no_place).name stop) (text_at tree (get_or ps i no_place).name stop)
 
--- the first position below n that is the same as an earlier one; nowhere where there is none
-unfoldable pub first_repeated : (ℕ → ℕ → Bool) → ℕ → Position
+-- the first position below n that is the same as an earlier one, if there is one
+unfoldable pub first_repeated : (ℕ → ℕ → Bool) → ℕ → Option ℕ
 first_repeated same n = first_that n (λ (i : ℕ). some i (same i))
