@@ -8,8 +8,7 @@ use native.Mathlib.Nat.{div-eq_of_lt-le, two-pow-succ}
 use native.Mathlib.Omega.{arith}
 use lib.Count.{count_leading_zeros, leading_top}
 use lib.ListN.{get_or}
-use Rattle.positions.specs.declared.Position.{Position}
-use Rattle.positions.specs.declared.Position.TheVariants.{Nowhere, At}
+use Rattle.std.specs.Prelude.{Option, None, Some}
 use Rattle.positions.specs.Bits.{bit, not_zero}
 use Rattle.positions.specs.Below.{first_that}
 use Rattle.positions.specs.Sets.{set_words, room, has, set_of, no_members, member_outside}
@@ -22,26 +21,26 @@ use Rattle.closure.specs.Parts.{Picks}
 use Rattle.closure.proofs.Sweeps.{and-true}
 
 -- what the two answers say
-module _ (s : List ℕ) {r : Position} (p : Picks s r) where
-  pub picked-member : {i : ℕ} → r ≡ At i → (i < room) × (has s i ≡ true)
+module _ (s : List ℕ) {r : Option ℕ} (p : Picks s r) where
+  pub picked-member : {i : ℕ} → r ≡ Some i → (i < room) × (has s i ≡ true)
   unfolding Picks
   picked-member e = subst (Picks s) e p
 
-  pub picked_none : r ≡ Nowhere → (i : ℕ) → i < room → has s i ≡ false
+  pub picked_none : r ≡ None → (i : ℕ) → i < room → has s i ≡ false
   unfolding Picks
   picked_none e = subst (Picks s) e p
 
 -- the lowest: the first member outside the empty set
 module _ (s : List ℕ) {e : List ℕ} (empty : e ≡ set_of no_members) where
-  first-picks : (r : Position) → IsFirst room (member_outside s e) r → Picks s r
+  first-picks : (r : Option ℕ) → IsFirst room (member_outside s e) r → Picks s r
   unfolding member_outside no_members Picks
-  first-picks (At i) f = (f.0, and_left (has s i) (not (has e i)) f.1)
-  first-picks Nowhere f = λ i l.
+  first-picks (Some i) f = (f.0, and_left (has s i) (not (has e i)) f.1)
+  first-picks None f = λ i l.
       sym (and-true (has s i))
       ∙ ap (λ (b : Bool). has s i && not b) (sym (ap (λ (x : List ℕ). has x i) empty ∙ has-set-of no_members i l))
       ∙ f i l
 
-  pub picks-lowest : {r : Position} → r ≡ first_that room (member_outside s e) → Picks s r
+  pub picks-lowest : {r : Option ℕ} → r ≡ first_that room (member_outside s e) → Picks s r
   picks-lowest {r} q = first-picks r (rw q (first-that room (member_outside s e)))
 
 -- the words from w on have no members
@@ -72,12 +71,12 @@ module _ (s : List ℕ) (g : WordList set_words s) where
   pub top_small : (w : ℕ) → (get_or s w 0 ≡ 0 → ⊥) → count_leading_zeros 64 (get_or s w 0) ≤ 63
   top_small w ne = (top_bit (get_or s w 0) (omega arith) (g.small w)).0
 
-  pub picks-highest : (w : ℕ) → w < set_words → (get_or s w 0 ≡ 0 → ⊥) → Picks s (At (64 * w + (63 - count_leading_zeros 64 (get_or s w 0))))
+  pub picks-highest : (w : ℕ) → w < set_words → (get_or s w 0 ≡ 0 → ⊥) → Picks s (Some (64 * w + (63 - count_leading_zeros 64 (get_or s w 0))))
   unfolding Picks
   picks-highest w h ne =
       let t = top_bit (get_or s w 0) (omega arith) (g.small w) in
       (omega (arith, t.0), has-at s w (63 - count_leading_zeros 64 (get_or s w 0)) (omega arith) ∙ t.1)
 
-  pub picks-none : {w : ℕ} → NoneFrom s w → w ≡ 0 → Picks s Nowhere
+  pub picks-none : {w : ℕ} → NoneFrom s w → w ≡ 0 → Picks s None
   unfolding has Picks
   picks-none n e = λ i h. ap (λ (x : ℕ). bit x (i % 64)) (n.zero (i / 64) (omega arith) (omega arith)) ∙ bit-none (i % 64)

@@ -1,5 +1,5 @@
 -- Laws of the slots of a position: whether they are members of a set. Assumes nothing.
-use Prim.Native.Nat.{ℕ, ◌+◌, ◌<◌}
+use Prim.Native.Nat.{ℕ, ◌+◌, ◌*◌, ◌≤◌, ◌<◌}
 use mathlib.Core.Path.{◌≡◌, refl, sym, ap, ap₂, ◌∙◌}
 use mathlib.Core.Bool.{Bool, true, false, ◌&&◌}
 use mathlib.Core.List.{List}
@@ -7,12 +7,18 @@ use native.Mathlib.Decide.{dec_lt}
 use native.Mathlib.Omega.{arith}
 use borrow.Author.Tests.{lt-ltb, ltb-true}
 use lib.Dec.{ltb}
+use lib.ListN.{length}
+use Rattle.std.specs.Prelude.{◌↔◌, IsTrue, All}
+use Rattle.std.specs.List.{slice_range}
+use Rattle.std.proofs.lemmas.List.Elements.{All-get_or, All-from_get_or}
 use Rattle.positions.specs.Below.{every}
 use Rattle.positions.specs.Sets.{set_words, room, has, is_subset}
-use Rattle.positions.proofs.BelowLaws.{no_way, and_left, and_right, and-false, every-at, every_of, every-not, every_more}
+use Rattle.positions.proofs.BelowLaws.{no_way, and_left, and_right, every-at, every_of}
 use Rattle.positions.proofs.SetLaws.{WordList, has-past}
 use Rattle.positions.proofs.MemberLaws.{subset-at}
+use Rattle.record.specs.Record.{most_dependencies}
 use Rattle.tables.specs.Slots.{slot_number, slot_of}
+use Rattle.tables.proofs.SlotLaws.{own-slot, length-own}
 use Rattle.closure.specs.Parts.{is_member, slots_held, slots_in}
 
 -- whether slots are members of a set, one after the other
@@ -24,27 +30,30 @@ module _ (slots : List ℕ) (i : ℕ) (s : List ℕ) where
   unfolding slots_held every
   held_none = refl
 
-  -- a slot is a member, or none
-  pub held_next : (j : ℕ) {d : ℕ} {b : Bool} → slots_held slots i j s ≡ true → d ≡ slot_of slots i j → b ≡ has s d → b ≡ true → WordList set_words s
-      → slots_held slots i (j + 1) s ≡ true
-  unfolding slots_held is_member
-  held_next j {d} {b} f e q z g =
-      every_more j test f (ap₂ ◌&&◌ (lt-ltb (slot_of slots i j) room (in_room (dec_lt (slot_of slots i j) room))) there)
+  in_room : (d : ℕ) → WordList set_words s → has s d ≡ true → d < room
+  in_room d g e = go (dec_lt d room)
     where
-      there : has s (slot_of slots i j) ≡ true
-      there = ap (has s) (sym e) ∙ sym q ∙ z
+      go : Dec (d < room) → d < room
+      go (yes h) = h
+      go (no h) = no_way (has s d) e (has-past s d (omega (arith, g.size)))
 
-      in_room : Dec (slot_of slots i j < room) → slot_of slots i j < room
-      in_room (yes h) = h
-      in_room (no h) = no_way (has s (slot_of slots i j)) there (has-past s (slot_of slots i j) (omega (arith, g.size)))
-
-  pub held-not : (m j : ℕ) {d : ℕ} {b : Bool} → j < m → d ≡ slot_of slots i j → b ≡ has s d → b ≡ false → slots_held slots i m s ≡ false
+  -- a test of the first m slots, as a part of all
+  pub held_own : (m : ℕ) (b : Bool) → WordList set_words s → most_dependencies * i + m ≤ length slots
+      → (IsTrue b ↔ All (λ d. has s d ≡ true) (slice_range slots (most_dependencies * i) (most_dependencies * i + m))) → slots_held slots i m s ≡ b
   unfolding slots_held is_member
-  held-not m j {d} {b} h e q z =
-      every-not m test j h (ap (λ (x : Bool). ltb (slot_of slots i j) room && x) (ap (has s) (sym e) ∙ sym q ∙ z) ∙ and-false (ltb (slot_of slots i j) room))
-
-  pub held_all : (m j : ℕ) → slots_held slots i j s ≡ true → j ≡ m → slots_held slots i m s ≡ true
-  held_all m j f e = rw (← e) f
+  held_own m true g h e =
+      every_of m test (λ j l.
+      let at = own-slot slots i m j l in
+      let there = ap (has s) (sym at) ∙ All-get_or (λ d. has s d ≡ true) _ j 0 (omega (arith, length-own slots i m h)) (e.0 refl) in
+      ap₂ ◌&&◌ (lt-ltb (slot_of slots i j) room (in_room _ g there)) there)
+  held_own m false g h e = go (every m test) refl
+    where
+      go : (t : Bool) → every m test ≡ t → t ≡ false
+      go false q = refl
+      go true q =
+          sym (e.1 (All-from_get_or (λ d. has s d ≡ true) _ 0 (λ j l.
+          let k : j < m = omega (arith, length-own slots i m h) in
+          ap (has s) (own-slot slots i m j k) ∙ and_right (ltb (slot_of slots i j) room) (has s (slot_of slots i j)) (every-at m test q j k))))
 
 -- the dependencies of a position, by its slots and how many are counted
 module _ (slots counts : List ℕ) (i : ℕ) where

@@ -1,7 +1,5 @@
 -- What the functions behind the public ones promise.
-use Rattle.std.specs.Prelude.{ℕ, ◌<◌, ◌≡◌, Bool, true, false, ◌&&◌, ◌⊎◌, List, ltb}
-use Rattle.positions.specs.declared.Position.{Position}
-use Rattle.positions.specs.declared.Position.TheVariants.{Nowhere, At}
+use Rattle.std.specs.Prelude.{ℕ, ◌<◌, ◌≡◌, Bool, true, false, ◌&&◌, ◌⊎◌, List, ltb, Option, None, Some}
 use Rattle.positions.specs.Below.{every}
 use Rattle.positions.specs.Sets.{room, has, with_member, without_member, is_subset}
 use Rattle.tables.specs.Slots.{slot_number, slot_of}
@@ -56,7 +54,7 @@ pub record Passes (held : ℕ → List ℕ → Bool) (n : ℕ) (old : List ℕ) 
   pub done : is_subset old r.members.words ≡ true → ClosedSet held n old
   pub needy : Needy held n r.members.words r.needy.words
 
--- a member of a set; nowhere, where it has none
-unfoldable pub Picks : List ℕ → Position → Type 0
-Picks s (At i) = (i < room) × (has s i ≡ true)
-Picks s Nowhere = (i : ℕ) → i < room → has s i ≡ false
+-- a member of a set; none, where it has none
+unfoldable pub Picks : List ℕ → Option ℕ → Type 0
+Picks s (Some i) = (i < room) × (has s i ≡ true)
+Picks s None = (i : ℕ) → i < room → has s i ≡ false

@@ -14,7 +14,7 @@ ghost use Rattle.closure.specs.Parts.{
   Picks,
 };
 
-use positions::{Position, Set, WORDS};
+use positions::{Set, WORDS};
 use record::{MOST_DEPENDENCIES, MOST_FEATURES, SLOTS};
 
 // What is left of a set, and those of it that have dependencies, which were members when they were last tested.
@@ -24,34 +24,26 @@ struct Left {
     needy: Set,
 }
 
-// A slot as a position.
-fn wide(x: u16) -> usize
-    ensures { result ≡ x }
-{
-    x as usize
-}
-
 // What is left once position `i` is tested, whose dependencies are its first `m` slots: it is taken out where one of these is no member. A
 // round for each slot, up to the first that is none.
 fn tested(slots: &[u16; SLOTS], i: usize, m: usize, x: Left) -> Left
     requires { (i < most_features) × (m ≤ most_dependencies) }
     ensures { Tested (slots_held slots.now i m x.members.words) i x result }
 {
-    let members = x.members;
-    let needy = x.needy;
-    let mut j: usize = 0;
-    while j < m {
-        if !positions::member(members, wide(slots[MOST_DEPENDENCIES * i + j])) {
-            return Left {
-                members: positions::remove(members, i),
-                needy,
-            };
+    let first = MOST_DEPENDENCIES * i;
+    if slots[first..first + m]
+        .iter()
+        .all(|slot| positions::member(x.members, usize::from(*slot)))
+    {
+        Left {
+            members: x.members,
+            needy: positions::insert(x.needy, i),
         }
-        j += 1;
-    }
-    Left {
-        members,
-        needy: positions::insert(needy, i),
+    } else {
+        Left {
+            members: positions::remove(x.members, i),
+            needy: x.needy,
+        }
     }
 }
 
@@ -60,10 +52,7 @@ fn tested_member(slots: &[u16; SLOTS], i: usize, m: usize, x: Left) -> Left
     requires { (i < most_features) × (m ≤ most_dependencies) }
     ensures { TestedMember (slots_held slots.now i m x.members.words) i m x result }
 {
-    if m == 0 {
-        return x;
-    }
-    if !positions::member(x.members, i) {
+    if m == 0 || !positions::member(x.members, i) {
         return x;
     }
     tested(slots, i, m, x)
@@ -78,38 +67,35 @@ fn first_pass(slots: &[u16; SLOTS], counts: &[u8; MOST_FEATURES], n: usize, s: S
         members: s,
         needy: positions::empty(),
     };
-    let mut i: usize = 0;
-    while i < n {
+    for i in 0..n {
         x = tested_member(slots, i, tables::used(counts, i), x);
-        i += 1;
     }
     x
 }
 
-// The highest member of a set, or nowhere: one step a word.
-fn highest(s: Set) -> Position
+// The highest member of a set, if it has one: one step a word.
+fn highest(s: Set) -> Option<usize>
     ensures { Picks s.words result }
 {
-    let mut w: usize = WORDS;
-    while 0 < w {
-        w -= 1;
+    for w in (0..WORDS).rev() {
         let word = s.words[w];
         if word != 0 {
-            let i = 64 * w + (63 - u64::leading_zeros(word) as usize);
-            return Position::At(i);
+            let i = 64 * w + (63 - word.leading_zeros() as usize);
+            return Some(i);
         }
     }
-    Position::Nowhere
+    None
 }
 
-// The lowest member of a set or the highest, or nowhere.
-fn outermost(s: Set, lowest: bool) -> Position
+// The lowest member of a set or the highest, if it has one.
+fn outermost(s: Set, lowest: bool) -> Option<usize>
     ensures { Picks s.words result }
 {
     if lowest {
-        return sets::lowest_outside(s, positions::empty());
+        sets::lowest_outside(s, positions::empty())
+    } else {
+        highest(s)
     }
-    highest(s)
 }
 
 // A later pass, over what has dependencies, from the lowest or from the highest on: a round for each, of at most sixteen slots.
@@ -123,21 +109,16 @@ fn next_pass(
     requires { (n ≤ most_features) × Needy (slots_in slots.now counts.now) n x.members.words x.needy.words }
     ensures { Passes (slots_in slots.now counts.now) n x.members.words result }
 {
-    let members = x.members;
     let mut todo = x.needy;
     let mut y = Left {
-        members,
+        members: x.members,
         needy: positions::empty(),
     };
-    loop {
-        match outermost(todo, upward) {
-            Position::Nowhere => return y,
-            Position::At(i) => {
-                todo = positions::remove(todo, i);
-                y = tested(slots, i, tables::used(counts, i), y);
-            }
-        }
+    while let Some(i) = outermost(todo, upward) {
+        todo = positions::remove(todo, i);
+        y = tested(slots, i, tables::used(counts, i), y);
     }
+    y
 }
 
 // The largest part of a set that is closed under dependencies, among the first `n` positions, of at most 64: what passes up and down in turn
@@ -147,7 +128,7 @@ fn next_pass(
 pub fn closed_part(slots: &[u16; SLOTS], counts: &[u8; MOST_FEATURES], n: usize, p: Set) -> Set
     ensures { result.words ≡ closed_part slots.now counts.now n p.words }
 {
-    let m = cells::least(n, MOST_FEATURES);
+    let m = n.min(MOST_FEATURES);
     let mut old = sets::intersection(p, positions::below(m));
     let mut x = first_pass(slots, counts, m, old);
     let mut upward = false;

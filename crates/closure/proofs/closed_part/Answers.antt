@@ -7,14 +7,14 @@ use borrow.Author.Rules.{rules}
 use Rattle.closure.proofs.closed_part.Goals as goal
 
 pub first_pass-x-requires : goal.first_pass-x-requires
-first_pass-x-requires c = omega (arith, c.least-m.ensures)
+first_pass-x-requires c = omega (arith, c.min-m.ensures)
 
 pub loop-old-init : goal.loop-old-init
 loop-old-init c =
     (takes_none _ _ _, c.first_pass-x.ensures, word-list _ (search (rules, c.first_pass-x.type_inv)) (λ v. search (rules, c.first_pass-x.type_inv)))
 
 pub next_pass-x-requires : goal.next_pass-x-requires
-next_pass-x-requires c = (omega (arith, c.least-m.ensures), c.loop-old.invariant.1.needy)
+next_pass-x-requires c = (omega (arith, c.min-m.ensures), c.loop-old.invariant.1.needy)
 
 pub loop-old-smaller : goal.loop-old-smaller
 loop-old-smaller c = pass-less _ _ _ _ c.loop-old.invariant.1 c.subset.ensures c.loop-old-test.true
@@ -29,5 +29,5 @@ loop-old-preserved c = (
 pub returns : goal.returns
 returns c =
     let inv = c.loop-old.invariant in
-    pass-last _ _ _ (omega (arith, c.least-m.ensures)) _ _ c.intersection-old.ensures c.below.ensures inv.0 inv.1
-    c.subset.ensures c.loop-old-test.false inv.2 c.least-m.ensures
+    pass-last _ _ _ (omega (arith, c.min-m.ensures)) _ _ c.intersection-old.ensures c.below.ensures inv.0 inv.1
+    c.subset.ensures c.loop-old-test.false inv.2 c.min-m.ensures

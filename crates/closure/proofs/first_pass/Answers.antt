@@ -7,18 +7,16 @@ use Rattle.closure.proofs.PassLaws.{looked-none, look-member, looked-all}
 use Rattle.closure.proofs.first_pass.Goals as goal
 
 pub loop-i-init : goal.loop-i-init
-loop-i-init c = (omega arith, looked-none _ _ c.empty.ensures _)
+loop-i-init c = looked-none _ _ c.empty.ensures _
 
 pub tested_member-x-requires : goal.tested_member-x-requires
 tested_member-x-requires c = let used = c.used.ensures ∙ used_low _ _ (omega arith) in (omega arith, omega arith)
 
 pub loop-i-preserved : goal.loop-i-preserved
 loop-i-preserved c =
-    let used = c.used.ensures ∙ used_low _ _ (omega arith) in (
-      omega arith,
-      look-member _ _ (slots-wider _ _) c.requires _ (omega arith) _ _ c.loop-i.invariant.1 _ (λ j h l ne. omega arith)
-          (slots-in _ _ _ used _) (slots-in-none _ _ _ used) c.tested_member-x.ensures,
-    )
+    let used = c.used.ensures ∙ used_low _ _ (omega arith) in
+    look-member _ _ (slots-wider _ _) c.requires _ (omega arith) _ _ c.loop-i.invariant _ (λ j h l ne. omega arith)
+    (slots-in _ _ _ used _) (slots-in-none _ _ _ used) c.tested_member-x.ensures
 
 pub returns : goal.returns
-returns c = looked-all _ _ _ c.loop-i.invariant.1 (λ j h. omega arith)
+returns c = looked-all _ _ _ c.loop-i.invariant (λ j h. omega arith)

@@ -1,12 +1,9 @@
 -- The invariant of `closure::first_pass`.
-use Prim.Native.Nat.{ℕ, ◌-◌, ◌≤◌, ◌<◌}
+use Prim.Native.Nat.{ℕ, ◌<◌}
 use Rattle.closure.specs.Parts.{slots_in}
 use Rattle.closure.proofs.PassLaws.{Looked}
 use Rattle.closure.proofs.first_pass.Given as goal
 
 abbrev pub invariant-loop-i : goal.invariant-loop-i
 invariant-loop-i l =
-    (l.i ≤ l.n) × Looked (slots_in l.slots l.counts) l.n l.initial.x.members.words (λ (j : ℕ). j < l.i) l.x.members.words l.x.needy.words
-
-abbrev pub decreases-loop-i : goal.decreases-loop-i
-decreases-loop-i l = l.n - l.i
+    Looked (slots_in l.slots l.counts) l.n l.initial.x.members.words (λ (j : ℕ). j < l.i) l.x.members.words l.x.needy.words

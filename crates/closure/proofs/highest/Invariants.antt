@@ -4,6 +4,3 @@ use Rattle.closure.proofs.highest.Given as goal
 
 abbrev pub invariant-loop-w : goal.invariant-loop-w
 invariant-loop-w l = NoneFrom l.s.words l.w
-
-abbrev pub decreases-loop-w : goal.decreases-loop-w
-decreases-loop-w l = l.w

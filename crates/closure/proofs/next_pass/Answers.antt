@@ -7,30 +7,30 @@ use Rattle.closure.proofs.PickLaws.{picked-member, picked_none}
 use Rattle.closure.proofs.PassLaws.{looked-again, look-tested, looked-all, todo-within, todo-done, todo-less}
 use Rattle.closure.proofs.next_pass.Goals as goal
 
-pub loop-y-init : goal.loop-y-init
-loop-y-init c = (looked-again _ _ c.empty.ensures _ _ c.requires.1, c.requires.1.low)
+pub loop-i-init : goal.loop-i-init
+loop-i-init c = (looked-again _ _ c.empty.ensures _ _ c.requires.1, c.requires.1.low)
 
-pub returns-in-Nowhere : goal.returns-in-Nowhere
-returns-in-Nowhere c =
-    let none = picked_none _ c.outermost.ensures c.in-Nowhere.is in
-    looked-all _ _ _ c.loop-y.invariant.0 (λ j h. none j (omega (arith, c.requires.0)))
+pub returns : goal.returns
+returns c =
+    let none = picked_none _ c.outermost.ensures c.in_default.is in
+    looked-all _ _ _ c.loop-i.invariant.0 (λ j h. none j (omega (arith, c.requires.0)))
 
 pub tested-y-requires : goal.tested-y-requires
 tested-y-requires c =
-    let picked = picked-member _ c.outermost.ensures c.in-At.is in
+    let picked = picked-member _ c.outermost.ensures c.in-Some.is in
     let used = c.used.ensures ∙ used_low _ _ (omega arith) in (omega arith, omega arith)
 
-pub loop-y-smaller : goal.loop-y-smaller
-loop-y-smaller c =
-    let picked = picked-member _ c.outermost.ensures c.in-At.is in
+pub loop-i-smaller : goal.loop-i-smaller
+loop-i-smaller c =
+    let picked = picked-member _ c.outermost.ensures c.in-Some.is in
     todo-less _ _ c.remove-todo.ensures picked.0 picked.1
 
-pub loop-y-preserved : goal.loop-y-preserved
-loop-y-preserved c =
-    let picked = picked-member _ c.outermost.ensures c.in-At.is in
-    let low = c.loop-y.invariant.1 _ picked.0 picked.1 in
+pub loop-i-preserved : goal.loop-i-preserved
+loop-i-preserved c =
+    let picked = picked-member _ c.outermost.ensures c.in-Some.is in
+    let low = c.loop-i.invariant.1 _ picked.0 picked.1 in
     let used = c.used.ensures ∙ used_low _ _ (omega arith) in (
-      look-tested _ _ (slots-wider _ _) c.requires.0 _ low _ _ c.loop-y.invariant.0 _
+      look-tested _ _ (slots-wider _ _) c.requires.0 _ low _ _ c.loop-i.invariant.0 _
           (λ j h z ne. todo-done _ _ c.remove-todo.ensures j (omega (arith, c.requires.0)) z ne) (slots-in _ _ _ used _) c.tested-y.ensures,
-      λ j h m. c.loop-y.invariant.1 j h (todo-within _ _ c.remove-todo.ensures j h m),
+      λ j h m. c.loop-i.invariant.1 j h (todo-within _ _ c.remove-todo.ensures j h m),
     )

@@ -7,10 +7,10 @@ use Rattle.closure.specs.Parts.{slots_in}
 use Rattle.closure.proofs.PassLaws.{Looked}
 use Rattle.closure.proofs.next_pass.Given as goal
 
-abbrev pub invariant-loop-y : goal.invariant-loop-y
-invariant-loop-y l =
+abbrev pub invariant-loop-i : goal.invariant-loop-i
+invariant-loop-i l =
     Looked (slots_in l.slots l.counts) l.n l.initial.y.members.words (λ (j : ℕ). has l.todo.words j ≡ false) l.y.members.words l.y.needy.words
     × ((j : ℕ) → j < room → has l.todo.words j ≡ true → j < l.n)
 
-abbrev pub decreases-loop-y : goal.decreases-loop-y
-decreases-loop-y l = member_count l.todo.words
+abbrev pub decreases-loop-i : goal.decreases-loop-i
+decreases-loop-i l = member_count l.todo.words
