@@ -1,10 +1,12 @@
 -- Reading a block to its end: what is left decides the whole, and the hit is that among the properties read. Assumes nothing.
-use mathlib.Core.Path.{◌≡◌, refl, sym, ap, ◌∙◌}
+use mathlib.Core.Path.{◌≡◌, refl, sym, ap, subst, ◌∙◌}
 use mathlib.Core.Bool.{Bool, true, false}
 use mathlib.Core.List.{List, [], ◌∷◌, ◌++◌, append_assoc, append-nil}
 use Prim.Native.Nat.{ℕ, suc, ◌+◌, ◌-◌, ◌<◌, ◌≤◌}
 use native.Mathlib.Omega.{arith}
 use lib.ListN.{length, take, drop}
+use Rattle.std.specs.Prelude.{Option, Some, None, Ok, Err}
+use Rattle.refusal.proofs.Numbers.{numbered}
 use Rattle.strings.specs.Strings.{Text, ended}
 use Rattle.names.specs.Names.{is_property_name, same_text}
 use Rattle.refusal.specs.Refusal.{number_of}
@@ -17,12 +19,16 @@ use Rattle.tokens.specs.Tokens.{Token, property, nop}
 use Rattle.tokens.proofs.TokenList.{tokens-step, property-moves, nop-moves}
 use Rattle.properties.specs.Properties.{among, given_before, name_fault}
 use Rattle.properties.proofs.LookBack.{property_names, Plain, plain-on, names-snoc, names-nop, among-before}
-use Rattle.lookup.specs.declared.Entry.TheVariants.{Named, Skip, Wrong}
-use Rattle.lookup.specs.declared.Hit.{Hit}
-use Rattle.lookup.specs.declared.Hit.TheVariants.{At, Missing}
+use Rattle.lookup.specs.declared.Entry.{Entry}
+use Rattle.lookup.specs.declared.Entry.TheVariants.{Named, Skip}
+use Rattle.lookup.specs.declared.Span.{Span}
 use Rattle.lookup.specs.Lookup.{Held, Block, properties, refused, block_from, block_of, held_as}
-use Rattle.lookup.specs.Parts.{name_in, block_tokens, Stands, named, skipped, misnamed, misplaced, first_hit, hit_of, Whole}
+use Rattle.lookup.specs.Parts.{name_in, block_tokens, span, Stands, named, skipped, misnamed, misplaced, first_hit, hit_of, Whole}
 use Rattle.lookup.proofs.Blocks.{held, read_step, block-done, block-step, step-misplaced, taken, not_taken, after_held, after_none, after_more}
+
+-- what was read at a place
+pub entry-is : {block strings : List ℕ} {at : ℕ} {e f : Entry} → Stands block strings at (Ok e) → e ≡ f → Stands block strings at (Ok f)
+entry-is {block} {strings} {at} s k = subst (λ (x : Entry). Stands block strings at (Ok x)) k s
 
 -- one more property
 pub hit-more : (name : List ℕ) (hs : List Held) (h : Held)
@@ -30,7 +36,7 @@ pub hit-more : (name : List ℕ) (hs : List Held) (h : Held)
 unfolding held_as
 hit-more name [] h = go (same_text h.name (ended name))
   where
-    go : (same : Bool) → pick same (At h.from h.to) Missing ≡ hit_of (elim same as (λ _. List Held) [ true ↦ h ∷ [] | false ↦ [] ])
+    go : (same : Bool) → pick same (Some (span h.from h.to)) None ≡ hit_of (elim same as (λ _. List Held) [ true ↦ h ∷ [] | false ↦ [] ])
     go true = refl
     go false = refl
 hit-more name (k ∷ hs) h = go (same_text k.name (ended name)) (hit-more name hs h)
@@ -42,7 +48,7 @@ hit-more name (k ∷ hs) h = go (same_text k.name (ended name)) (hit-more name h
     go false f = f
 
 -- a block, read up to a place: the tokens and the properties there, and that those from the place on decide
-pub record Reading (block strings name : List ℕ) (hit : Hit) (at : ℕ) : Type 0 where
+pub record Reading (block strings name : List ℕ) (hit : Option Span) (at : ℕ) : Type 0 where
   pub most : ℕ
   pub enough : length block ≤ at + most
   pub read : List Token
@@ -52,7 +58,7 @@ pub record Reading (block strings name : List ℕ) (hit : Hit) (at : ℕ) : Type
   pub first : hit ≡ hit_of (held_as name holds)
   pub same : after_held holds (block_from most block strings (property_names read) at) ≡ block_of block strings
 
-pub reading_begins : (block strings name : List ℕ) → Reading block strings name Missing 0
+pub reading_begins : (block strings name : List ℕ) → Reading block strings name None 0
 unfolding held_as property_names block_of
 reading_begins block strings name =
     record {
@@ -66,7 +72,7 @@ reading_begins block strings name =
       same = after_none (block_from (length block) block strings [] 0);
     }
 
-module _ {block strings name : List ℕ} {hit : Hit} {at : ℕ} (g : Reading block strings name hit at) where
+module _ {block strings name : List ℕ} {hit : Option Span} {at : ℕ} (g : Reading block strings name hit at) where
   more : (t : Token) (next : ℕ) → block_tokens block strings at ≡ t ∷ block_tokens block strings next
       → block_tokens block strings 0 ≡ (g.read ++ t ∷ []) ++ block_tokens block strings next
   more t next e =
@@ -95,8 +101,8 @@ module _ {block strings name : List ℕ} {hit : Hit} {at : ℕ} (g : Reading blo
       (among-before block (length block) (name_in strings) 0 at (name_in strings o) g.read g.split g.plain e)
 
   module _ (h : at < length block) where
-    pub reading-named : {o from to : ℕ} {c : Cursor} {then : Hit} → Stands block strings at (Named o from to c)
-        → then ≡ first_hit hit (same_text (name_in strings o) (ended name)) from to → Reading block strings name then c.at
+    pub reading-named : {o : ℕ} {s : Span} {c : Cursor} {then : Option Span} → Stands block strings at (Ok (Named o s c))
+        → then ≡ first_hit hit (same_text (name_in strings o) (ended name)) s.from s.to → Reading block strings name then c.at
     reading-named {then = then} (named {t} {v} {l} {o} {c} e f) r =
         let m = property-moves block (length block) at e in
         let n = name_in strings o in
@@ -110,14 +116,14 @@ module _ {block strings name : List ℕ} {hit : Hit} {at : ℕ} (g : Reading blo
           split = more u c.at (tokens-step block (length block) (name_in strings) at e);
           plain = plain-on at c.at g.read (u ∷ []) (omega (arith, m.on)) g.plain (omega (arith, m.here, m.on), tt);
           holds = g.holds ++ p ∷ [];
-          first = r ∙ ap (λ (x : Hit). first_hit x (same_text n (ended name)) t (v + l)) g.first ∙ hit-more name g.holds p;
+          first = r ∙ ap (λ (x : Option Span). first_hit x (same_text n (ended name)) t (v + l)) g.first ∙ hit-more name g.holds p;
           same =
               ap (λ (ns : List Text). after_held (g.holds ++ p ∷ []) (later ns c.at)) (names-snoc g.read t n (take l (drop v block)))
               ∙ after_more g.holds p (later (seen ++ n ∷ []) c.at)
               ∙ whole h e fine;
         }
 
-    pub reading-skipped : {c : Cursor} → Stands block strings at (Skip c) → Reading block strings name hit c.at
+    pub reading-skipped : {c : Cursor} → Stands block strings at (Ok (Skip c)) → Reading block strings name hit c.at
     reading-skipped (skipped {t} {c} e) =
         let m = nop-moves block (length block) at e in
         record {
@@ -131,10 +137,10 @@ module _ {block strings name : List ℕ} {hit : Hit} {at : ℕ} (g : Reading blo
           same = ap (λ (ns : List Text). after_held g.holds (later ns c.at)) (names-nop g.read t) ∙ whole h e refl;
         }
 
-    pub reading-stops : {r : Refusal} → Stands block strings at (Wrong r) → block_of block strings ≡ refused (number_of r)
-    reading-stops (misnamed {t} {v} {l} {o} {c} e f z) =
+    pub reading-stops : {r : Refusal} → Stands block strings at (Err r) → block_of block strings ≡ refused (number_of r)
+    reading-stops (misnamed {t} {v} {l} {o} {c} {r} e f) =
         let n = name_in strings o in
-        sym (whole h e (not_taken (is_property_name n) (among n seen) (held strings o t (v + l)) (later (seen ++ n ∷ []) c.at) (f ∙ fault-read e) z))
+        sym (whole h e (not_taken (is_property_name n) (among n seen) (held strings o t (v + l)) (later (seen ++ n ∷ []) c.at) (f ∙ fault-read e) (numbered r)))
     reading-stops (misplaced {x} e p) = sym (whole h e (step-misplaced later strings seen x p))
 
   pub reading-ends : length block ≤ at → Whole name (block_of block strings) hit
@@ -149,8 +155,8 @@ module _ {block strings name : List ℕ} {hit : Hit} {at : ℕ} (g : Reading blo
       }
 
 -- what follows lies further on
-pub named-moves : {block strings : List ℕ} {at o from to : ℕ} {c : Cursor} → Stands block strings at (Named o from to c) → (at + 4 ≤ c.at) × (c.at ≤ length block)
+pub named-moves : {block strings : List ℕ} {at o : ℕ} {s : Span} {c : Cursor} → Stands block strings at (Ok (Named o s c)) → (at + 4 ≤ c.at) × (c.at ≤ length block)
 named-moves {block} {at = at} (named e f) = let m = property-moves block (length block) at e in (m.on, m.within)
 
-pub skip-moves : {block strings : List ℕ} {at : ℕ} {c : Cursor} → Stands block strings at (Skip c) → (at + 4 ≤ c.at) × (c.at ≤ length block)
+pub skip-moves : {block strings : List ℕ} {at : ℕ} {c : Cursor} → Stands block strings at (Ok (Skip c)) → (at + 4 ≤ c.at) × (c.at ≤ length block)
 skip-moves {block} {at = at} (skipped e) = let m = nop-moves block (length block) at e in (m.on, m.within)

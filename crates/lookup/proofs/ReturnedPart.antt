@@ -9,6 +9,7 @@ use native.Mathlib.Decide.{dec_le}
 use lib.ListN.{length, get_or, take, drop, length-take, length-drop}
 use lib.Seq.{get_or-take, get_or-drop, take-add, drop_at, drop-drop}
 use Rattle.cells.specs.Cells.{cell_at}
+use Rattle.std.specs.Prelude.{Option, Some, None}
 use Rattle.strings.specs.Strings.{Text, ended, unended}
 use Rattle.names.specs.Names.{is_property_name, same_text}
 use Rattle.names.proofs.Texts.{same-text-true}
@@ -17,7 +18,7 @@ use Rattle.tokens.specs.declared.Step.TheVariants.{BeginNode, EndNode, Property,
 use Rattle.tokens.specs.Steps.{step_at}
 use Rattle.properties.specs.Properties.{among}
 use Rattle.lookup.specs.declared.Found.{Found}
-use Rattle.lookup.specs.declared.Found.TheVariants.{InCpu, InParent, Nowhere}
+use Rattle.lookup.specs.declared.Found.TheVariants.{InCpu, InParent}
 use Rattle.lookup.specs.Lookup.{Held, Block, properties, refused, block_from, block_of, held_as, or_parent, in_either, lookup, part_of, value_of}
 use Rattle.lookup.specs.Parts.{name_in}
 use Rattle.lookup.specs.LooksUp.{part, PropertyPart}
@@ -160,10 +161,10 @@ module _ (block strings name : List ℕ) where
 
 -- what is found
 module _ (cpu parent strings name : List ℕ) where
-  abbrev Placed : Found → Type 0
-  Placed (InCpu from to) = PropertyPart cpu strings name from to
-  Placed (InParent from to) = PropertyPart parent strings name from to
-  Placed Nowhere = Unit
+  abbrev Placed : Option Found → Type 0
+  Placed (Some (InCpu from to)) = PropertyPart cpu strings name from to
+  Placed (Some (InParent from to)) = PropertyPart parent strings name from to
+  Placed None = Unit
 
   placed : Placed (lookup cpu parent strings name)
   unfolding lookup
@@ -180,30 +181,30 @@ module _ (cpu parent strings name : List ℕ) where
       go (properties ps) (refused n) e f = tt
       go (refused n) p e f = tt
 
-  pub in-cpu : {from to : ℕ} → lookup cpu parent strings name ≡ InCpu from to → PropertyPart cpu strings name from to
+  pub in-cpu : {from to : ℕ} → lookup cpu parent strings name ≡ Some (InCpu from to) → PropertyPart cpu strings name from to
   in-cpu e = subst Placed e placed
 
-  pub in-parent : {from to : ℕ} → lookup cpu parent strings name ≡ InParent from to → PropertyPart parent strings name from to
+  pub in-parent : {from to : ℕ} → lookup cpu parent strings name ≡ Some (InParent from to) → PropertyPart parent strings name from to
   in-parent e = subst Placed e placed
 
   -- what is no property name is not found
-  pub no_name : (is_property_name (ended name) ≡ true → ⊥) → lookup cpu parent strings name ≡ Nowhere
+  pub no_name : (is_property_name (ended name) ≡ true → ⊥) → lookup cpu parent strings name ≡ None
   no_name h = go (lookup cpu parent strings name) refl
     where
-      go : (f : Found) → lookup cpu parent strings name ≡ f → f ≡ Nowhere
-      go (InCpu from to) e = absurd (h (in-cpu e).good)
-      go (InParent from to) e = absurd (h (in-parent e).good)
-      go Nowhere e = refl
+      go : (f : Option Found) → lookup cpu parent strings name ≡ f → f ≡ None
+      go (Some (InCpu from to)) e = absurd (h (in-cpu e).good)
+      go (Some (InParent from to)) e = absurd (h (in-parent e).good)
+      go None e = refl
 
   -- the part, as the code has it
-  pub cpu-part : {from to : ℕ} → lookup cpu parent strings name ≡ InCpu from to → take (to - from) (drop from cpu) ≡ part_of cpu parent (lookup cpu parent strings name)
+  pub cpu-part : {from to : ℕ} → lookup cpu parent strings name ≡ Some (InCpu from to) → take (to - from) (drop from cpu) ≡ part_of cpu parent (lookup cpu parent strings name)
   unfolding part_of
   cpu-part e = sym (ap (part_of cpu parent) e)
 
-  pub parent-part : {from to : ℕ} → lookup cpu parent strings name ≡ InParent from to → take (to - from) (drop from parent) ≡ part_of cpu parent (lookup cpu parent strings name)
+  pub parent-part : {from to : ℕ} → lookup cpu parent strings name ≡ Some (InParent from to) → take (to - from) (drop from parent) ≡ part_of cpu parent (lookup cpu parent strings name)
   unfolding part_of
   parent-part e = sym (ap (part_of cpu parent) e)
 
-  pub no_part : lookup cpu parent strings name ≡ Nowhere → [] ≡ part_of cpu parent (lookup cpu parent strings name)
+  pub no_part : lookup cpu parent strings name ≡ None → [] ≡ part_of cpu parent (lookup cpu parent strings name)
   unfolding part_of
   no_part e = sym (ap (part_of cpu parent) e)

@@ -1,43 +1,28 @@
 -- `lookup::entry_at` meets its contract: one law for each kind of token. Assumes nothing.
-use mathlib.Core.Path.{sym, ◌∙◌}
+use Rattle.std.specs.Prelude.{Err}
+use mathlib.Core.Path.{◌≡◌, sym, ◌∙◌}
 use native.Mathlib.Omega.{arith}
-use Rattle.lookup.specs.Parts.{skipped, misplaced}
-use Rattle.lookup.proofs.Entries.{lies, stands-named, stands-misnamed}
+use borrow.Author.Rules.{rules}
+use Rattle.lookup.specs.Parts.{skipped, misnamed, misplaced}
+use Rattle.lookup.proofs.Entries.{lies, stands-named, no-place}
 use Rattle.lookup.proofs.entry_at.Goals as goal
 
-pub returns-then-number-ne0 : goal.returns-then-number-ne0
-returns-then-number-ne0 c =
-    let e = sym c.step-step.ensures.value ∙ c.in-Property.is in
-    stands-misnamed _ _ e _ c.number.ensures c.name_refusal-refusal.ensures c.if-number-ne0.true
+pub returns-in_err-name_refusal-in-Property : goal.returns-in_err-name_refusal-in-Property
+returns-in_err-name_refusal-in-Property c =
+    let r : c.from_residual.result ≡ Err c.in_err-name_refusal-in-Property.field-0.0 = search rules in
+    rw r (misnamed (sym c.step.ensures.value ∙ c.in-Property.is) c.in_err-name_refusal-in-Property.ensures)
 
-pub overflow_add-result : goal.overflow_add-result
-overflow_add-result c =
-    let e = sym c.step-step.ensures.value ∙ c.in-Property.is in
-    let g = lies _ _ e in
-    omega arith
+pub overflow_add-span : goal.overflow_add-span
+overflow_add-span c = let g = lies _ _ (sym c.step.ensures.value ∙ c.in-Property.is) in omega arith
 
-pub overflow_add-result-in-Property : goal.overflow_add-result-in-Property
-overflow_add-result-in-Property c =
-    let e = sym c.step-step.ensures.value ∙ c.in-Property.is in
-    let g = lies _ _ e in
-    omega arith
+pub overflow_add-span-in-Property : goal.overflow_add-span-in-Property
+overflow_add-span-in-Property c = let g = lies _ _ (sym c.step.ensures.value ∙ c.in-Property.is) in omega arith
 
-pub returns-else-number-ne0 : goal.returns-else-number-ne0
-returns-else-number-ne0 c =
-    let e = sym c.step-step.ensures.value ∙ c.in-Property.is in
-    stands-named _ _ e _ c.number.ensures c.name_refusal-refusal.ensures c.if-number-ne0.false
+pub returns-in_ok-name_refusal-in-Property : goal.returns-in_ok-name_refusal-in-Property
+returns-in_ok-name_refusal-in-Property c = stands-named _ _ (sym c.step.ensures.value ∙ c.in-Property.is) _ c.in_ok-name_refusal-in-Property.ensures
 
 pub returns-in-Nop : goal.returns-in-Nop
-returns-in-Nop c = skipped (sym c.step-step.ensures.value ∙ c.in-Nop.is)
+returns-in-Nop c = skipped (sym c.step.ensures.value ∙ c.in-Nop.is)
 
-pub returns-in-BeginNode : goal.returns-in-BeginNode
-returns-in-BeginNode c = misplaced (sym c.step-step.ensures.value ∙ c.in-BeginNode.is) tt
-
-pub returns-in-EndNode : goal.returns-in-EndNode
-returns-in-EndNode c = misplaced (sym c.step-step.ensures.value ∙ c.in-EndNode.is) tt
-
-pub returns-in-End : goal.returns-in-End
-returns-in-End c = misplaced (sym c.step-step.ensures.value ∙ c.in-End.is) tt
-
-pub returns-in-Fault : goal.returns-in-Fault
-returns-in-Fault c = misplaced (sym c.step-step.ensures.value ∙ c.in-Fault.is) tt
+pub returns-in_default : goal.returns-in_default
+returns-in_default c = misplaced (sym c.step.ensures.value) (no-place c.step.result c.in_default.not-Property c.in_default.not-Nop)

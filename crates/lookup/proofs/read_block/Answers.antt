@@ -1,38 +1,47 @@
 -- `lookup::read_block` meets its contract. The loop's invariant: what is left of the block decides the whole, and the hit is that among
 -- the properties read. Assumes nothing.
-use mathlib.Core.Path.{refl, subst}
+use Rattle.std.specs.Prelude.{Err}
+use mathlib.Core.Path.{◌≡◌}
 use native.Mathlib.Omega.{arith}
-use Rattle.lookup.specs.Parts.{Stands}
-use Rattle.lookup.proofs.Reading.{reading_begins, reading-named, reading-skipped, reading-stops, reading-ends, named-moves, skip-moves}
+use borrow.Author.Rules.{rules}
+use Rattle.lookup.proofs.Entries.{hit-here, hit_other, hit_stays}
+use Rattle.lookup.proofs.Reading.{entry-is, reading_begins, reading-named, reading-skipped, reading-stops, reading-ends, named-moves, skip-moves}
 use Rattle.lookup.proofs.read_block.Goals as goal
+use Rattle.lookup.proofs.read_block.Goals.{else-is_none-via-then-is_none+else-is_named as not-named, else-is_none-via-else-is_none as found-before}
 
-pub loop-at-init : goal.loop-at-init
-loop-at-init c = (refl, reading_begins _ _ _)
+pub loop-cursor-init : goal.loop-cursor-init
+loop-cursor-init c = reading_begins _ _ _
 
-pub loop-at-smaller-in-Named : goal.loop-at-smaller-in-Named
-loop-at-smaller-in-Named c =
-    let m = named-moves (subst (Stands _ _ _) c.in-Named.is c.entry_at-entry.ensures) in
-    omega arith
+pub returns-in_err-offset : goal.returns-in_err-offset
+returns-in_err-offset c =
+    let r : c.from_residual.result ≡ Err c.in_err-offset.field-0.0 = search rules in
+    rw r (reading-stops c.loop-cursor.invariant (omega arith) c.in_err-offset.ensures)
 
-pub loop-at-preserved-in-Named : goal.loop-at-preserved-in-Named
-loop-at-preserved-in-Named c =
-    let l = c.loop-at.invariant in
-    (l.0, reading-named l.1 (omega arith) (subst (Stands _ _ _) c.in-Named.is c.entry_at-entry.ensures) c.first_hit-hit.ensures)
+pub loop-cursor-smaller-then-is_named : goal.loop-cursor-smaller-then-is_named
+loop-cursor-smaller-then-is_named c = let m = named-moves (entry-is c.in_ok-offset.ensures c.in-Named.is) in omega arith
 
-pub loop-at-smaller : goal.loop-at-smaller
-loop-at-smaller c =
-    let m = skip-moves (subst (Stands _ _ _) c.in-Skip.is c.entry_at-entry.ensures) in
-    omega arith
+pub loop-cursor-preserved-then-is_named : goal.loop-cursor-preserved-then-is_named
+loop-cursor-preserved-then-is_named c =
+    let e = entry-is c.in_ok-offset.ensures c.in-Named.is in
+    reading-named c.loop-cursor.invariant (omega arith) e (hit-here _ _ c.in-Named.span c.if-is_none.ensures c.if-is_named.ensures)
 
-pub loop-at-preserved : goal.loop-at-preserved
-loop-at-preserved c =
-    let l = c.loop-at.invariant in
-    (l.0, reading-skipped l.1 (omega arith) (subst (Stands _ _ _) c.in-Skip.is c.entry_at-entry.ensures))
+pub loop-cursor-smaller-else-is_none : goal.loop-cursor-smaller-else-is_none
+loop-cursor-smaller-else-is_none c = let m = named-moves (entry-is c.in_ok-offset.ensures c.in-Named.is) in omega arith
 
-pub returns-in-Wrong : goal.returns-in-Wrong
-returns-in-Wrong c =
-    let l = c.loop-at.invariant in
-    reading-stops l.1 (omega arith) (subst (Stands _ _ _) c.in-Wrong.is c.entry_at-entry.ensures)
+pub loop-cursor-preserved-else-is_none : goal.loop-cursor-preserved-else-is_none
+loop-cursor-preserved-else-is_none c =
+    let e = entry-is c.in_ok-offset.ensures c.in-Named.is in
+    reading-named c.loop-cursor.invariant (omega arith) e
+    (elim c.else-is_none.branch [
+      | not-named w ↦ hit_other _ _ c.in-Named.span w.if-is_named.ensures
+      | found-before w ↦ hit_stays _ _ c.in-Named.span w.if-is_none.ensures
+    ])
+
+pub loop-cursor-smaller : goal.loop-cursor-smaller
+loop-cursor-smaller c = let m = skip-moves (entry-is c.in_ok-offset.ensures c.in-Skip.is) in omega arith
+
+pub loop-cursor-preserved : goal.loop-cursor-preserved
+loop-cursor-preserved c = reading-skipped c.loop-cursor.invariant (omega arith) (entry-is c.in_ok-offset.ensures c.in-Skip.is)
 
 pub returns : goal.returns
-returns c = reading-ends c.loop-at.invariant.1 (omega arith)
+returns c = reading-ends c.loop-cursor.invariant (omega arith)
