@@ -195,5 +195,5 @@ pub fn repeated_name(tree: &[u8], b: Blocks, fs: ChildPlaces) -> Option<usize>
             }
         }
     }
-    None
+    None // no name is repeated
 }
