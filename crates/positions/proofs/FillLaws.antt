@@ -1,20 +1,18 @@
--- Laws of sets that are filled a word at a time: the members of either of two sets, and the positions below a bound. Assumes nothing.
+-- Laws of sets that are filled a word at a time, and of the positions below a bound. Assumes nothing.
 use Prim.Native.Nat.{ℕ, zero, suc, ◌+◌, ◌-◌, ◌*◌, ◌/◌, ◌%◌, ◌^◌, ◌≤◌, ◌<◌, min}
-use mathlib.Core.Path.{◌≡◌, refl, sym, ap, ◌∙◌}
-use mathlib.Core.Bool.{◌||◌}
+use mathlib.Core.Path.{◌≡◌, sym, ap, ◌∙◌}
 use mathlib.Core.List.{List}
 use native.Mathlib.Decide.{dec_lt}
 use native.Mathlib.Omega.{arith}
 use borrow.Author.Count.{below_more}
 use borrow.Author.Tests.{lt-ltb, le-ltb}
-use lib.Bits.{bit_or, or_lt}
 use lib.Dec.{ltb}
 use lib.ListN.{get_or, set}
 use lib.Pow.{pow_pos}
 use lib.Seq.{get_or-set_same, get_or-set_other}
 use Rattle.positions.specs.Bits.{bit}
-use Rattle.positions.specs.Sets.{set_words, room, has, either, first_positions, word_below}
-use Rattle.positions.proofs.BitLaws.{bit-or, bit-zero, bit-suc, bit-none}
+use Rattle.positions.specs.Sets.{set_words, room, has, first_positions, word_below}
+use Rattle.positions.proofs.BitLaws.{bit-zero, bit-suc, bit-none}
 use Rattle.positions.proofs.SetLaws.{WordList, set-words}
 use Rattle.positions.proofs.MemberLaws.{has-set-of, set-of-is}
 use Rattle.positions.proofs.SetCodeLaws.{shift_one}
@@ -42,21 +40,6 @@ filled_more f t w x r h l e =
 pub filled-has : (f : ℕ → ℕ) (t : List ℕ) (w : ℕ) → FilledTo f t w → set_words ≤ w → (j : ℕ) → j < room → has t j ≡ bit (f (j / 64)) (j % 64)
 unfolding has
 filled-has f t w r h j l = ap (λ (x : ℕ). bit x (j % 64)) (r.each (j / 64) (omega arith))
-
--- the members of either of two sets
-unfoldable pub either_word : List ℕ → List ℕ → ℕ → ℕ
-either_word a b v = bit_or (get_or a v 0) (get_or b v 0)
-
-pub either-more : (a b t : List ℕ) (w : ℕ) → WordList set_words a → WordList set_words b → FilledTo (either_word a b) t w → w < set_words
-    → FilledTo (either_word a b) (set t w (bit_or (get_or a w 0) (get_or b w 0))) (w + 1)
-unfolding either_word
-either-more a b t w ga gb r h = filled_more (either_word a b) t w (either_word a b w) r h (or_lt 64 (get_or a w 0) (get_or b w 0) (ga.small w) (gb.small w)) refl
-
-pub either-all : (a b t : List ℕ) (w : ℕ) → FilledTo (either_word a b) t w → set_words ≤ w → t ≡ either a b
-unfolding either has either_word
-either-all a b t w r h =
-    set-of-is t (λ j. has a j || has b j) r.word-list
-    (λ j l. filled-has (either_word a b) t w r h j l ∙ bit-or (get_or a (j / 64) 0) (get_or b (j / 64) 0) (j % 64))
 
 -- the bits of 2 ^ k - 1 are those below k
 bit-ones : (k i : ℕ) → bit (2 ^ k - 1) i ≡ ltb i k

@@ -5,17 +5,15 @@ use mathlib.Core.Bool.{Bool, true, false, not, ◌&&◌, ◌||◌, cond}
 use mathlib.Core.List.{List}
 use native.Mathlib.Nat.{lt_of_le_of_lt}
 use native.Mathlib.Omega.{arith}
-use borrow.Author.Count.{below_more}
 use borrow.Author.Tests.{ne_eqb, le-ltb}
 use lib.Bits.{bit_and, bit_or, and_le_l}
 use lib.Dec.{eqb}
 use lib.ListN.{length, get_or, set, replicate}
 use lib.Pow.{pow-lt, shl_exact}
-use lib.Seq.{get_or-set_same, get_or-set_other}
 use mir.Syntax.{w64}
 use mir.Val.{Fits}
 use Rattle.positions.specs.Bits.{bit}
-use Rattle.positions.specs.Sets.{set_words, has, insert_at, collect, set_of, no_members, with_member, without_member, common, is_subset}
+use Rattle.positions.specs.Sets.{set_words, has, insert_at, collect, set_of, no_members, with_member, without_member, is_subset}
 use Rattle.positions.proofs.BelowLaws.{and_right}
 use Rattle.positions.proofs.BitLaws.{bit-and, bit-pow, bit_not, bit-ext, bit_test}
 use Rattle.positions.proofs.SetLaws.{WordList, or-false, has-at, has-past, has-word-set, set-words, collect-words, has-collect}
@@ -102,27 +100,3 @@ subset-not a b v g h ne = go (is_subset a b) refl
     go true e =
         absurd (ne (word-within (get_or a v 0) (get_or b v 0) (g.small v) (λ s q m.
         sym (has-at b v s q) ∙ subset-at a b e (64 * v + s) (omega arith) (has-at a v s q ∙ m))))
-
--- the common members of the first w words
-pub record CommonTo (a b t : List ℕ) (w : ℕ) : Type 0 where
-  pub within : w ≤ set_words
-  pub word-list : WordList set_words t
-  pub each : (v : ℕ) → v < w → get_or t v 0 ≡ bit_and (get_or a v 0) (get_or b v 0)
-
-pub common-more : (a b t : List ℕ) (w : ℕ) → WordList set_words a → CommonTo a b t w → w < set_words
-    → CommonTo a b (set t w (bit_and (get_or a w 0) (get_or b w 0))) (w + 1)
-common-more a b t w g r h =
-    let new = bit_and (get_or a w 0) (get_or b w 0) in
-    record {
-      within = omega arith;
-      word-list = set-words t w new r.word-list (lt_of_le_of_lt (and_le_l (get_or a w 0) (get_or b w 0)) (g.small w));
-      each =
-          below_more (λ v. get_or (set t w new) v 0 ≡ bit_and (get_or a v 0) (get_or b v 0)) w (λ v q. get_or-set_other t w v new 0 (omega arith) ∙ r.each v q)
-          (get_or-set_same t w new 0 (omega (arith, r.word-list.size)));
-    }
-
-pub common-all : (a b t : List ℕ) (w : ℕ) → CommonTo a b t w → set_words ≤ w → t ≡ common a b
-unfolding common has
-common-all a b t w r h =
-    set-of-is t (λ j. has a j && has b j) r.word-list
-    (λ j l. ap (λ (x : ℕ). bit x (j % 64)) (r.each (j / 64) (omega arith)) ∙ bit-and (get_or a (j / 64) 0) (get_or b (j / 64) 0) (j % 64))
