@@ -1,9 +1,9 @@
 // Tables of sets of positions: a row for each position, the rows of dependencies, and the positions whose rows are inside a set.
 #![tactic(auto)]
 
-ghost use Rattle.std.specs.Prelude.{◌≡◌, ◌≤◌, ◌<◌, min};
+ghost use Rattle.std.specs.Prelude.{◌≡◌, ◌≤◌, ◌<◌, min, replicate};
 ghost use Rattle.record.specs.Record.{most_features, most_dependencies};
-ghost use Rattle.tables.specs.Tables.{row_or_none, dependency_table, rows_inside};
+ghost use Rattle.tables.specs.Tables.{table_words, row_or_none, dependency_table, rows_inside};
 ghost use Rattle.tables.specs.Slots.{used_slots};
 ghost use Rattle.tables.specs.Parts.{row_put, slot_set, added_in};
 
@@ -17,6 +17,17 @@ pub const TABLE_WORDS: usize = WORDS * MOST_FEATURES;
 #[derive(Clone, Copy)]
 pub struct Rows {
     pub words: [u64; TABLE_WORDS],
+}
+
+// Rows of no members, as they stand beside a refusal.
+impl Default for Rows {
+    ghost is_default = { λ rows. rows.words ≡ replicate table_words 0 };
+
+    fn default() -> Rows {
+        Rows {
+            words: [0; TABLE_WORDS],
+        }
+    }
 }
 
 // The set in a row of a table, empty from row 64 on: its words are copied.
