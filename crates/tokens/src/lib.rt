@@ -3,7 +3,7 @@
 
 ghost use Rattle.std.specs.Prelude.{◌≡◌, ◌+◌, ◌<◌, ◌≤◌, ◌^◌};
 ghost use Rattle.refusal.specs.Checks.{fault_of};
-ghost use Rattle.tokens.specs.Steps.{padded as padded_to, property_at, step_at, step_number, token_checks};
+ghost use Rattle.tokens.specs.Steps.{property_at, step_at, step_number, token_checks};
 
 const BEGIN_NODE: u32 = 1;
 
@@ -51,15 +51,6 @@ pub enum Step {
     },
 }
 
-// A length rounded up to a multiple of four.
-#[tactic(auto, unfolding(crate::specs::Steps::padded))]
-fn padded(n: usize) -> usize
-    requires { n < 2 ^ 63 }
-    ensures { result ≡ padded_to n }
-{
-    (n + 3) / 4 * 4
-}
-
 // The property at a place, where its value ends within the block.
 #[tactic(auto, unfolding(crate::specs::Steps::padded, crate::specs::Steps::property_at))]
 fn property_at(s: &[u8], end: usize, at: usize) -> Step
@@ -73,7 +64,7 @@ fn property_at(s: &[u8], end: usize, at: usize) -> Step
     let length = cells::cell_at(s, at + 4) as usize;
     let name = cells::cell_at(s, at + 8) as usize;
     let value = at + 12;
-    let room = padded(length);
+    let room = length.next_multiple_of(4);
     if end - value < room {
         return Step::Fault { at };
     }
