@@ -82,7 +82,7 @@ fn child_item(tree: &[u8], b: Blocks, t: usize, from: usize) -> Result<Item, Ref
         name: from,
         length,
         next: Cursor {
-            at: from + (length / 4 + 1) * 4,
+            at: from + (length + 1).next_multiple_of(4),
         },
     }))
 }
@@ -108,6 +108,7 @@ fn noted(seen: Containers, tree: &[u8], at: usize, from: usize, length: usize) -
     requires { from + length ≤ length-of tree.now }
     ensures { result ≡ note seen at (take length (drop from tree.now)) }
 {
+    // `==` is no plainer here: `same_bytes` is it, promised in the words of `note`
     if !strings::same_bytes(&tree[from..from + length], b"ibm,powerpc-cpu-features") {
         return seen;
     }
