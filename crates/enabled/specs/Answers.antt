@@ -1,7 +1,8 @@
 -- The enabled set of a record (document 01, "Permitted and enabled").
-use Rattle.std.specs.Prelude.{ℕ, List}
-use Rattle.refusal.specs.Refusal.{Outcome, answer, refuse, number_of}
+use Rattle.std.specs.Prelude.{ℕ, List, Result}
+use Rattle.refusal.specs.Refusal.{Outcome, answer, refuse, outcome_of}
 use Rattle.refusal.specs.Checks.{first_fault}
+use Rattle.refusal.specs.declared.Refusal.{Refusal}
 use Rattle.positions.specs.Sets.{set_words, has, collect, set_of, no_members, member_count}
 use Rattle.record.specs.declared.Record.{Record}
 use Rattle.permitted.specs.declared.Grants.{Grants}
@@ -30,6 +31,10 @@ enabled_set r permitted = collect set_words r.count (enabled (dependencies_in r)
 unfoldable pub enable : Record → ℕ → Grants → Outcome Members
 enable r level g = first_fault (refuse nobody) (asked_checks r level) (answer (members_of (enabled_set r (permitted_set r level g))))
 
--- what an answer says: the number of document 01, and its value
-abbrev pub enabled_outcome : Enabled → Outcome Members
-enabled_outcome e = record { number = number_of e.refusal; value = record { set = e.set.words; count = e.count } }
+-- what an answer says: the set and the count
+abbrev pub members_in : Enabled → Members
+members_in e = record { set = e.set.words; count = e.count }
+
+-- what a call says: the number of document 01, and its value
+abbrev pub enabled_outcome : Result Enabled Refusal → Outcome Members
+enabled_outcome e = outcome_of members_in nobody e

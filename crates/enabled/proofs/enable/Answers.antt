@@ -1,19 +1,22 @@
 -- `enabled::enable` meets its contract. Assumes nothing.
-use mathlib.Core.Path.{refl, sym, ◌∙◌}
+use mathlib.Core.Path.{refl, sym, ap, ◌∙◌}
+use Rattle.std.proofs.lemmas.Result.{err_from_is_err_and}
+use Rattle.refusal.specs.Refusal.{answer}
+use Rattle.refusal.proofs.Numbers.{numbered}
 use Rattle.enabled.proofs.AnswerLaws.{sweep-refused, all-seen-enabled, enabled-answered, sweep-answered}
+use Rattle.enabled.specs.Answers.{Members}
 use Rattle.enabled.proofs.enable.Goals as goal
 
-pub returns-then-number-ne0 : goal.returns-then-number-ne0
-returns-then-number-ne0 c = sweep-refused _ _ _ c.examine-x.ensures (λ z. c.if-number-ne0.true (c.number.ensures ∙ z)) c.nobody.ensures
+pub returns-in_err-x : goal.returns-in_err-x
+returns-in_err-x c =
+    let p = err_from_is_err_and c.from_residual.result c.from_residual.ensures.1 in
+    rw (p.1, p.2) (sweep-refused _ _ _ c.in_err-x.ensures (numbered _) refl)
 
 pub returns-then-subset : goal.returns-then-subset
 returns-then-subset c =
-    let seen = c.examine-x.ensures in
-    let good = sym c.number.ensures ∙ c.if-number-ne0.false in
-    enabled-answered _ _ _ seen good c.counted.ensures
-    (all-seen-enabled _ _ _ seen good refl c.below.ensures (sym c.subset.ensures ∙ c.if-subset.true))
+    let seen = c.in_ok-x.ensures in
+    enabled-answered _ _ _ seen refl (ap (λ (m : Members). answer m) c.counted.ensures)
+    (all-seen-enabled _ _ _ seen refl refl c.below.ensures (sym c.subset.ensures ∙ c.if-subset.true))
 
 pub returns : goal.returns
-returns c =
-    sweep-answered _ _ _ c.examine-x.ensures (sym c.number.ensures ∙ c.if-number-ne0.false) c.counted-2.ensures refl
-    c.closed_part.ensures
+returns c = sweep-answered _ _ _ c.in_ok-x.ensures refl (ap (λ (m : Members). answer m) c.counted-2.ensures) refl c.closed_part.ensures
