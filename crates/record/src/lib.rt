@@ -20,7 +20,7 @@ pub const HIGHEST_FSCR_BIT: u32 = 63;
 pub const HIGHEST_HWCAP_BIT: u32 = 63;
 
 // A feature: its begin token's offset, which properties were given, the cells of its properties, zero where absent, and how many
-// dependencies it has.
+// dependencies it has. Laid out as C's `YebkuzanFeature`: a word of bits beside the numbers, and no Option.
 #[repr(C)]
 #[derive(Clone, Copy)]
 pub struct Feature {
@@ -38,6 +38,7 @@ pub struct Feature {
 }
 
 // Document 01: "a record of at most 64 features with its count"; the dependencies of the feature at a position are in its sixteen slots.
+// Laid out as C's `YebkuzanRecord`: a count beside the features.
 #[repr(C)]
 #[derive(Clone, Copy)]
 pub struct Record {
