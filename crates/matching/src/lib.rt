@@ -9,22 +9,20 @@ ghost use Rattle.names.specs.Names.{same_text};
 pub fn same_name(s: &[u8], p: usize, q: usize, end: usize) -> bool
     ensures { result ≡ same_text (text_at s.now p end) (text_at s.now q end) }
 {
-    let stop = cells::least(s.len(), end);
-    let mut i = p;
-    let mut j = q;
-    while i < stop {
-        if stop <= j {
+    let stop = end.min(s.len());
+    let Some(a) = s.get(p..stop) else {
+        return false;
+    };
+    let Some(b) = s.get(q..stop) else {
+        return false;
+    };
+    for (x, y) in a.iter().zip(b) {
+        if x != y {
             return false;
         }
-        let b = s[i];
-        if b != s[j] {
-            return false;
-        }
-        if b == 0 {
+        if *x == 0 {
             return true;
         }
-        i += 1;
-        j += 1;
     }
     false
 }
@@ -33,22 +31,11 @@ pub fn same_name(s: &[u8], p: usize, q: usize, end: usize) -> bool
 pub fn has_name(s: &[u8], from: usize, end: usize, name: &[u8]) -> bool
     ensures { result ≡ same_text (text_at s.now from end) (ended name.now) }
 {
-    let stop = cells::least(s.len(), end);
-    let mut i = from;
-    let mut j = 0;
-    while i < stop {
-        let b = s[i];
-        if b == 0 {
-            return j == name.len();
-        }
-        if name.len() <= j {
-            return false;
-        }
-        if b != name[j] {
-            return false;
-        }
-        i += 1;
-        j += 1;
+    let Some(block) = s.get(from..end.min(s.len())) else {
+        return false;
+    };
+    if block.len() <= name.len() || block[name.len()] != 0 || &block[..name.len()] != name {
+        return false;
     }
-    false
+    !name.contains(&0)
 }

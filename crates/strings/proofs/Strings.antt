@@ -63,7 +63,7 @@ module _ (s : List ℕ) (from end : ℕ) where
   unfolding ending_of
   no_text h = rw (text-none s end from (omega arith))
 
-  text-block : from ≤ length s → text_at s from end ≡ text_of (slice_range s from (min end (length s)))
+  pub text-block : from ≤ length s → text_at s from end ≡ text_of (slice_range s from (min end (length s)))
   unfolding text_at
   text-block h = ap text_of (go (dec_lt (length s) end))
     where

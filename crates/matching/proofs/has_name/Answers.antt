@@ -1,31 +1,27 @@
--- `matching::has_name` meets its contract. The loop's invariant: the string from `i` on has the characters of the name from `j` on exactly when the whole one has all. Assumes nothing.
+-- `matching::has_name` meets its contract. Assumes nothing.
 use native.Mathlib.Omega.{arith}
-use mathlib.Core.Path.{sym, ◌∙◌}
-use Rattle.names.proofs.Texts.{has-whole, named_none, named-ended, named-longer, named-apart, named-goes-on}
+use mathlib.Core.Path.{sym, ap, ◌∙◌}
+use mathlib.Core.Bool.{not}
+use Rattle.matching.proofs.Spelled.{no_block, no_room, no_end, others, spelled}
 use Rattle.matching.proofs.has_name.Goals as goal
+use Rattle.matching.proofs.has_name.Goals.{then-block-name-via-then-block-name, then-block-name-via-else-block-name+then-block-name-ne0, then-block-name-via-else-block-name+else-block-name-ne0+then-ne}
 
-pub loop-i-init : goal.loop-i-init
-loop-i-init c = (c.least-stop.ensures, omega arith, has-whole _ _ _ _)
+pub returns-in_default : goal.returns-in_default
+returns-in_default c =
+    no_block c.args.s.now c.args.from c.args.end c.args.name.now (omega (arith, c.min.ensures, c.in_default.ensures.lookup))
 
-pub returns-then-b-eq0 : goal.returns-then-b-eq0
-returns-then-b-eq0 c =
-    let l = c.loop-i in
-    sym (named-ended _ _ _ _ _ (omega arith) c.if-b-eq0.true l.invariant.1) ∙ l.invariant.2
-
-pub returns-then-name-j : goal.returns-then-name-j
-returns-then-name-j c =
-    let l = c.loop-i in
-    sym (named-longer _ _ _ _ _ (omega arith) c.if-b-eq0.false (omega arith)) ∙ l.invariant.2
-
-pub returns-then-b-name : goal.returns-then-b-name
-returns-then-b-name c =
-    let l = c.loop-i in
-    sym (named-apart _ _ _ _ _ (omega arith) c.if-b-eq0.false (omega arith) c.if-b-name.true) ∙ l.invariant.2
-
-pub loop-i-preserved : goal.loop-i-preserved
-loop-i-preserved c =
-    let l = c.loop-i in
-    (l.invariant.0, omega arith, sym (named-goes-on _ _ _ _ _ (omega arith) c.if-b-eq0.false (omega arith) c.if-b-name.false) ∙ l.invariant.2)
+pub returns-then-block-name : goal.returns-then-block-name
+returns-then-block-name c =
+    let f = c.in-Some.ensures.lookup.0 in
+    elim c.then-block-name.branch [
+      | then-block-name-via-then-block-name w ↦ no_room c.args.s.now c.args.from c.args.end c.args.name.now c.min.ensures f.0 f.2 f.3 w.if-block-name.true
+      | then-block-name-via-else-block-name+then-block-name-ne0 w ↦
+          no_end c.args.s.now c.args.from c.args.end c.args.name.now c.min.ensures f.0 f.2 f.3 w.if-block-name.false w.if-block-name-ne0.true
+      | then-block-name-via-else-block-name+else-block-name-ne0+then-ne w ↦
+          others c.args.s.now c.args.from c.args.end c.args.name.now c.min.ensures f.0 f.2 f.3 w.if-block-name.false (sym w.if-ne.ensures)
+    ]
 
 pub returns : goal.returns
-returns c = sym (named_none _ _ _ _ _ (omega arith)) ∙ c.loop-i.invariant.2
+returns c =
+    let f = c.in-Some.ensures.lookup.0 in
+    ap not c.contains.ensures.value ∙ spelled c.args.s.now c.args.from c.args.end c.args.name.now c.min.ensures f.0 f.2 f.3 c.if-block-name.false c.if-block-name-ne0.false (sym c.if-ne.ensures)

@@ -1,0 +1,2 @@
+mod Bytes
+mod Spelled
