@@ -87,12 +87,11 @@ module _ (n k : ℕ) (few : n ≤ most_features) (kn : k < n) (R : ℕ → ℕ �
 
 -- the rows below m of a table joined, whatever relation it shows
 pub record JoinsBelow (n k m : ℕ) (old new : List ℕ) : Type 0 where
-  pub within : m ≤ n
   pub joins : (R : ℕ → ℕ → Bool) → old ≡ table_of n R → new ≡ table_of n (joined_below m k R)
 
 module _ (n k : ℕ) (few : n ≤ most_features) (kn : k < n) (old : List ℕ) where
   pub joins-none : JoinsBelow n k 0 old old
-  joins-none = record { within = omega arith; joins = λ R e. e ∙ join-none n k few kn R }
+  joins-none = record { joins = λ R e. e ∙ join-none n k few kn R }
 
   pub joins-more : (m : ℕ) (table own row other new : List ℕ) → m < n → JoinsBelow n k m old table → other ≡ row_or_none old k → own ≡ row_or_none table m
       → row ≡ joined own other k → new ≡ with_row table m row → JoinsBelow n k (m + 1) old new
@@ -100,7 +99,6 @@ module _ (n k : ℕ) (few : n ≤ most_features) (kn : k < n) (old : List ℕ) w
       let o' : other ≡ row_at old k = o ∙ row_low old k (omega arith) in
       let q' : row ≡ joined (row_at table m) other k = q ∙ ap (λ (x : List ℕ). joined x other k) (w ∙ row_low table m (omega arith)) in
       record {
-        within = omega arith;
         joins = λ R e. p ∙ join_more n k few kn R m table row other h (j.joins R e) (o' ∙ ap (λ (t : List ℕ). row_at t k) e ∙ row-table R n k kn) q';
       }
 
@@ -109,18 +107,16 @@ module _ (n k : ℕ) (few : n ≤ most_features) (kn : k < n) (old : List ℕ) w
 
 -- the positions below k are let through
 pub record Closes (table : List ℕ) (n k : ℕ) (words : List ℕ) : Type 0 where
-  pub within : k ≤ n
   pub shows : (num : ℕ → ℕ) (dep : ℕ → ℕ → ℕ) → Shows num dep n (row_at table)
       → (R : ℕ → ℕ → Bool) × Through num dep n k R × (words ≡ table_of n R)
 
 module _ (table : List ℕ) (n : ℕ) (few : n ≤ most_features) where
   pub closes-none : (words : List ℕ) → words ≡ table_of n (with_self table) → Closes table n 0 words
-  closes-none words e = record { within = omega arith; shows = λ num dep sh. (with_self table, through-none num dep n few sh.below table sh, e) }
+  closes-none words e = record { shows = λ num dep sh. (with_self table, through-none num dep n few sh.below table sh, e) }
 
   pub closes-more : (k : ℕ) (old new : List ℕ) → k < n → Closes table n k old → Joins n k old new → Closes table n (k + 1) new
   closes-more k old new h c j =
       record {
-        within = omega arith;
         shows = λ num dep sh.
             let r = c.shows num dep sh in
             (through k r.0, through-more num dep n few sh.below k h r.0 r.1, j r.0 r.2);

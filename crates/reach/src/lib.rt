@@ -15,28 +15,20 @@ use record::{MOST_FEATURES, Record};
 use refusal::Refusal;
 use tables::{Rows, TABLE_WORDS};
 
-// A refusal, or the reach table; zeros beside a refusal.
-#[derive(Clone, Copy)]
-pub struct ReachTable {
-    pub refusal: Refusal,
-    pub rows: Rows,
-}
-
 // The first `n` rows, each with its own position put in: `n` rounds, each of one row read and one written.
 fn with_selves(table: &[u64; TABLE_WORDS], n: usize) -> Rows
     requires { n ≤ most_features }
     ensures { result.words ≡ table_of n (with_self table.now) }
 {
     let mut words: [u64; TABLE_WORDS] = [0; TABLE_WORDS];
-    let mut i: usize = 0;
-    while i < n {
+    for i in 0..n {
         tables::put_row(&mut words, i, positions::insert(tables::row(table, i), i));
-        i += 1;
     }
     Rows { words }
 }
 
 // A set that has `k` takes in the members of another.
+#[tactic(auto, unfolding(crate::specs::Parts::joined))]
 fn joined(x: Set, y: Set, k: usize) -> Set
     ensures { result.words ≡ joined_of x.words y.words k }
 {
@@ -52,11 +44,9 @@ fn join(table: &mut [u64; TABLE_WORDS], n: usize, k: usize)
     ensures { Joins n k table.old table.new }
 {
     let y = tables::row(table, k);
-    let mut i: usize = 0;
-    while i < n {
+    for i in 0..n {
         let x = joined(tables::row(table, i), y, k);
         tables::put_row(table, i, x);
-        i += 1;
     }
 }
 
@@ -65,18 +55,15 @@ fn reach_rows(table: &[u64; TABLE_WORDS], n: usize) -> Rows
     requires { n ≤ most_features }
     ensures { Reaches table.now n result.words }
 {
-    let start = with_selves(table, n);
-    let mut words = start.words;
-    let mut k: usize = 0;
-    while k < n {
-        join(&mut words, n, k);
-        k += 1;
+    let mut rows = with_selves(table, n);
+    for k in 0..n {
+        join(&mut rows.words, n, k);
     }
-    Rows { words }
+    rows
 }
 
 // The reach table of a record, which is examined at user level without grants: only number 14 can refuse that.
-pub fn reach_table(r: Record) -> ReachTable
+pub fn reach_table(r: Record) -> Result<Rows, Refusal>
     ensures { reach_outcome result ≡ reach_of r }
 {
     let none = Grants {
@@ -85,34 +72,18 @@ pub fn reach_table(r: Record) -> ReachTable
         hfscr: 0,
         fscr: 0,
     };
-    let n = cells::least(r.count as usize, MOST_FEATURES);
+    let n = (r.count as usize).min(MOST_FEATURES);
     let slots = r.slots;
-    let x = permitted::examine(r, USER, none);
-    let refusal = x.refusal;
-    if refusal::number(refusal) != 0 {
-        return ReachTable {
-            refusal,
-            rows: Rows {
-                words: [0; TABLE_WORDS],
-            },
-        };
-    }
+    let x = permitted::examine(r, USER, none)?;
     let table = tables::dependency_rows(&slots, &x.counts, n);
-    ReachTable {
-        refusal: Refusal::None,
-        rows: reach_rows(&table.words, n),
-    }
+    Ok(reach_rows(&table.words, n))
 }
 
 // The enabled set by the rows of a table that is handed in.
-pub fn enable_by_table(r: Record, table: Rows, level: u32, g: Grants) -> Enabled
+pub fn enable_by_table(r: Record, table: Rows, level: u32, g: Grants) -> Result<Enabled, Refusal>
     ensures { enabled_outcome result ≡ enable_by_table r table.words level g }
 {
     let n = r.count as usize;
-    let x = permitted::examine(r, level, g);
-    let refusal = x.refusal;
-    if refusal::number(refusal) != 0 {
-        return enabled::nobody(refusal);
-    }
-    enabled::counted(tables::inside_rows(&table.words, n, x.set))
+    let x = permitted::examine(r, level, g)?;
+    Ok(enabled::counted(tables::inside_rows(&table.words, n, x.set)))
 }

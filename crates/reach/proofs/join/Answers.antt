@@ -10,8 +10,7 @@ loop-i-init c = joins-none _ _ (omega arith) (omega arith) _
 
 pub loop-i-preserved : goal.loop-i-preserved
 loop-i-preserved c =
-    let l = c in
-    joins-more _ _ (omega arith) (omega arith) _ _ _ _ _ _ _ (omega arith) l.loop-i.invariant l.row-y.ensures
+    joins-more _ _ (omega arith) (omega arith) _ _ _ _ _ _ _ (omega arith) c.loop-i.invariant c.row-y.ensures
     c.row.ensures c.joined-x.ensures (c.put_row.ensures ∙ row-put-low _ _ _ (omega arith))
 
 pub returns : goal.returns

@@ -1,10 +1,6 @@
 -- The invariant of `reach::join`.
-use Prim.Native.Nat.{◌-◌}
 use Rattle.reach.proofs.JoinLaws.{JoinsBelow}
 use Rattle.reach.proofs.join.Given as goal
 
 abbrev pub invariant-loop-i : goal.invariant-loop-i
 invariant-loop-i l = JoinsBelow l.n l.k l.i l.initial.table l.table
-
-abbrev pub decreases-loop-i : goal.decreases-loop-i
-decreases-loop-i l = l.n - l.i

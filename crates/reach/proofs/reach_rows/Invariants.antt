@@ -1,10 +1,6 @@
 -- The invariant of `reach::reach_rows`.
-use Prim.Native.Nat.{◌-◌}
 use Rattle.reach.proofs.JoinLaws.{Closes}
 use Rattle.reach.proofs.reach_rows.Given as goal
 
 abbrev pub invariant-loop-k : goal.invariant-loop-k
-invariant-loop-k l = Closes l.table l.n l.k l.words
-
-abbrev pub decreases-loop-k : goal.decreases-loop-k
-decreases-loop-k l = l.n - l.k
+invariant-loop-k l = Closes l.table l.n l.k l.rows.words

@@ -1,12 +1,14 @@
 -- `reach::reach_table` meets its contract. Assumes nothing.
-use mathlib.Core.Path.{sym, ◌∙◌}
+use mathlib.Core.Path.{refl}
+use Rattle.std.proofs.lemmas.Result.{err_from_is_err_and}
+use Rattle.refusal.proofs.Numbers.{numbered}
 use Rattle.reach.proofs.AnswerLaws.{reach-refused, reach-answered}
 use Rattle.reach.proofs.reach_table.Goals as goal
 
-pub returns-then-number-ne0 : goal.returns-then-number-ne0
-returns-then-number-ne0 c = reach-refused _ _ c.examine-x.ensures (λ z. c.if-number-ne0.true (c.number.ensures ∙ z))
+pub returns-in_err-x : goal.returns-in_err-x
+returns-in_err-x c =
+    let p = err_from_is_err_and c.from_residual.result c.from_residual.ensures.1 in
+    rw (p.1, p.2) (reach-refused _ _ c.in_err-x.ensures (numbered _))
 
 pub returns : goal.returns
-returns c =
-    reach-answered _ _ c.examine-x.ensures (sym c.number.ensures ∙ c.if-number-ne0.false) c.least-n.ensures c.dependency_rows-table.ensures
-    c.reach_rows.ensures
+returns c = reach-answered _ _ c.in_ok-x.ensures refl c.min-n.ensures c.dependency_rows-table.ensures c.reach_rows.ensures

@@ -7,12 +7,12 @@ use Rattle.reach.proofs.JoinLaws.{self_row}
 use Rattle.reach.proofs.with_selves.Goals as goal
 
 pub loop-i-init : goal.loop-i-init
-loop-i-init c = (omega arith, zero-table _)
+loop-i-init c = zero-table _
 
 pub loop-i-preserved : goal.loop-i-preserved
 loop-i-preserved c =
     let own = c.insert.ensures ∙ self_row _ _ (c.row.ensures ∙ row_low _ _ (omega arith)) in
-    (omega arith, c.put_row.ensures ∙ row-put-low _ _ _ (omega arith) ∙ table_more _ _ _ _ c.loop-i.invariant.1 own (omega arith))
+    c.put_row.ensures ∙ row-put-low _ _ _ (omega arith) ∙ table_more _ _ _ _ c.loop-i.invariant own (omega arith)
 
 pub returns : goal.returns
-returns c = table-all _ _ _ _ c.loop-i.invariant.1 (omega arith)
+returns c = table-all _ _ _ _ c.loop-i.invariant (omega arith)
