@@ -16,8 +16,6 @@ use Rattle.tables.specs.Slots.{slot_number, used_slots}
 use Rattle.form.specs.WellFormed.{slot_below, slots_fit}
 use Rattle.form.specs.Slots.{slots_fit_at}
 use Rattle.closure.specs.Slots.{slots_below}
-use Rattle.chain.specs.Parts.{BoundedPart}
-use Rattle.chain.specs.declared.Bounded.{Bounded}
 
 -- what the test of a position's slots, as many as it uses, answers
 pub slots-fit-is : (slots counts : List ℕ) (n i : ℕ) {m : ℕ} {b : Bool} → i < most_features → m ≡ used_slots counts i → b ≡ slots_fit_at slots n i m
@@ -82,8 +80,3 @@ module _ (slots counts : List ℕ) (n : ℕ) where
           counted = rw k (below_more (λ j. get_or used j 0 ≡ own j) i t.counted (t.rest i (omega arith) ∙ sym (rw e)));
           rest = λ j l. ap (λ (l : List ℕ). get_or l j 0) k ∙ t.rest j (omega arith);
         }
-
-  pub bounded-all : {i : ℕ} (r : Bounded) → BoundedTo slots counts n i r.set.words r.counts → n ≤ i → BoundedPart slots counts n r
-  bounded-all {i} r t h =
-      let e : i ≡ n = omega (arith, t.within) in
-      record { members = t.members ∙ ap (λ (m : ℕ). collect set_words m bounded) e; counted = λ j l. t.counted j (omega arith) }

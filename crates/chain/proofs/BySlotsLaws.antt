@@ -1,4 +1,6 @@
 -- How the call for a chain by slots ends: by the graph of the positions whose dependencies are among the first n. Assumes nothing.
+use Rattle.std.specs.Prelude.{Result}
+use Rattle.refusal.specs.declared.Refusal.{Refusal}
 use Prim.Native.Nat.{ℕ, ◌≤◌, ◌<◌, min}
 use mathlib.Core.Path.{◌≡◌, refl, sym, ap, ◌∙◌}
 use mathlib.Core.Bool.{Bool, true, false, ◌&&◌, cond}
@@ -30,7 +32,6 @@ use Rattle.chain.specs.Chain.{chain_outcome}
 use Rattle.chain.specs.Slots.{slot_chain, slot_checks, chain_by_slots, after_chain_by_slots}
 use Rattle.chain.specs.Layers.{graph_checks, ShowsSome, Tells}
 use Rattle.chain.specs.Parts.{BoundedPart}
-use Rattle.chain.specs.declared.ChainTold.{ChainTold}
 use Rattle.chain.specs.declared.Bounded.{Bounded}
 use Rattle.chain.proofs.PositionLaws.{position-same}
 
@@ -86,7 +87,7 @@ module _ (slots counts : List ℕ) (asked : ℕ) {n : ℕ} (most : n ≡ min ask
         (λ l out. chains-agree n (number_within slots counts n) (slot_number counts) (slot_of slots) (has both) (permitted_among slots counts n p)
         (graph-within slots counts n) allowed alike room few n i l out)
 
-    module _ {old new : List ℕ} {t : ChainTold} (tells : Tells table n both i old new t) where
+    module _ {old new : List ℕ} {t : Result ℕ Refusal} (tells : Tells table n both i old new t) where
       outcome : chain_outcome t ≡ chain_by_slots slots counts asked p i (length old)
       unfolding chain_by_slots
       outcome =

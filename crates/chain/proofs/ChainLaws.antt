@@ -1,4 +1,6 @@
 -- How the call for a chain ends: by the refusal of the record or the level, or by the graph of the record. Assumes nothing.
+use Rattle.std.specs.Prelude.{Result}
+use Rattle.refusal.specs.declared.Refusal.{Refusal}
 use Prim.Native.Nat.{ℕ, ◌≤◌, min}
 use mathlib.Core.Path.{◌≡◌, sym, ap, ◌∙◌}
 use mathlib.Core.List.{List}
@@ -21,7 +23,6 @@ use Rattle.enabled.proofs.DependencyLaws.{shows-table}
 use Rattle.enabled.proofs.AnswerLaws.{number-seen, form-seen, counts-seen, permitted-seen, all_seen}
 use Rattle.chain.specs.Chain.{chain_in, chain_checks, chain, after_chain, chain_outcome}
 use Rattle.chain.specs.Layers.{graph_checks, ShowsSome, Tells}
-use Rattle.chain.specs.declared.ChainTold.{ChainTold}
 
 module _ (r : Record) (level : ℕ) (g : Grants) {o : Outcome Seen} (e : o ≡ examined r level g) where
   abbrev number : o.number ≡ fault_of (asked_checks r level)
@@ -49,7 +50,7 @@ module _ (r : Record) (level : ℕ) (g : Grants) {o : Outcome Seen} (e : o ≡ e
       pub graph-shown : (n ≤ most_features) × ShowsSome n table
       graph-shown = (omega arith, record { num = dependencies_in r; dep = dependency_in r; shows = shows })
 
-      module _ {i : ℕ} {old new : List ℕ} {t : ChainTold} (tells : Tells table n o.value.set i old new t) where
+      module _ {i : ℕ} {old new : List ℕ} {t : Result ℕ Refusal} (tells : Tells table n o.value.set i old new t) where
         told : Tells table n (permitted_set r level g) i old new t
         told = rw (← permitted-seen r level g e none) tells
 

@@ -1,7 +1,7 @@
 -- Laws of the layers that hold a position, as they are gathered. Assumes nothing.
 use Prim.Native.Nat.{ℕ, ◌+◌, ◌≤◌, ◌<◌}
 use mathlib.Core.Path.{◌≡◌, refl, sym, ap, ◌∙◌}
-use mathlib.Core.Bool.{Bool, true, false}
+use mathlib.Core.Bool.{Bool, true}
 use mathlib.Core.List.{List, []}
 use native.Mathlib.Numerals.{add-one}
 use native.Mathlib.Omega.{arith}
@@ -10,9 +10,8 @@ use lib.ListN.{length, set, length-set}
 use lib.Seq.{get_or-set_same, get_or-set_other}
 use Rattle.positions.specs.declared.Set.{Set}
 use Rattle.positions.specs.Sets.{has, is_subset}
-use Rattle.positions.proofs.BelowLaws.{no_way}
 use Rattle.record.specs.Record.{most_features}
-use Rattle.chain.specs.Layers.{swept, layer_at, set_at, Falls}
+use Rattle.chain.specs.Layers.{swept, layer_at, set_at}
 use Rattle.chain.proofs.LayerLaws.{settled}
 
 -- the first k layers hold position i, and are gathered; the next is at hand
@@ -52,29 +51,8 @@ module _ (table p : List ℕ) {n i k : ℕ} {sets : List Set} {s : Set} (f : Fal
     holds = below_more (λ m. has (layer_at table n p m) i ≡ true) k f.holds (here e);
   }
 
-  -- the position is out; or a sweep takes nothing out; or there were n of them
-  pub fall-out : has s.words i ≡ false → Falls table n p i (record { enabled = false; held = k; sets = sets })
-  fall-out e = record { within = f.within; layers = f.layers; holds = f.holds; out = λ q. here e; stays = λ q. no_way false q refl }
-
-  pub fall-stays : {t : List ℕ} → t ≡ swept table n s.words → is_subset s.words t ≡ true → has s.words i ≡ true
-      → Falls table n p i (record { enabled = true; held = k; sets = sets })
-  fall-stays q e h = record {
-    within = f.within;
-    layers = f.layers;
-    holds = f.holds;
-    out = λ r. no_way true refl r;
-    stays = λ r.
-        settled table p n k (omega (arith, f.few)) f.within
-        (ap (λ (l : List ℕ). is_subset l (swept table n l)) (sym f.next) ∙ ap (is_subset s.words) (sym q) ∙ e) i (omega (arith, f.few, f.low)) (here h);
-  }
-
-  pub fall_ends : {b : Bool} → n ≤ k → b ≡ has s.words i → Falls table n p i (record { enabled = b; held = n; sets = sets })
-  fall_ends {b} h e =
-      let q : k ≡ n = omega (arith, f.within) in
-      record {
-        within = omega arith;
-        layers = λ m r. f.layers m (omega arith);
-        holds = λ m r. f.holds m (omega arith);
-        out = λ r. ap (λ (m : ℕ). has (layer_at table n p m) i) (sym q) ∙ here (sym e ∙ r);
-        stays = λ r. ap (λ (m : ℕ). has (layer_at table n p m) i) (sym q) ∙ here (sym e ∙ r);
-      }
+  -- a sweep takes nothing out
+  pub fall-stays : {t : List ℕ} → t ≡ swept table n s.words → is_subset s.words t ≡ true → has s.words i ≡ true → has (layer_at table n p n) i ≡ true
+  fall-stays q e h =
+      settled table p n k (omega (arith, f.few)) f.within
+      (ap (λ (l : List ℕ). is_subset l (swept table n l)) (sym f.next) ∙ ap (is_subset s.words) (sym q) ∙ e) i (omega (arith, f.few, f.low)) (here h)

@@ -1,4 +1,5 @@
 -- The way down the layers is the shortest chain, of every graph that the table shows. Assumes nothing.
+use Rattle.std.specs.Prelude.{Option, Some}
 use Prim.Native.Nat.{ℕ, zero, suc, ◌+◌, ◌≤◌, ◌<◌}
 use mathlib.Core.Path.{◌≡◌, refl, sym, ap, ap₂, subst, ◌∙◌}
 use mathlib.Core.Bool.{Bool, true, false, not, ◌&&◌}
@@ -6,8 +7,6 @@ use mathlib.Core.List.{List, ◌∷◌}
 use native.Mathlib.Decide.{le_ind}
 use native.Mathlib.Omega.{arith}
 use lib.ListN.{length}
-use Rattle.positions.specs.declared.Position.{Position}
-use Rattle.positions.specs.declared.Position.TheVariants.{At}
 use Rattle.positions.specs.Sets.{room, has, member_outside}
 use Rattle.positions.proofs.BelowLaws.{and_left, and_right}
 use Rattle.positions.proofs.FirstLaws.{first-is}
@@ -30,9 +29,9 @@ module _ (num : ℕ → ℕ) (dep : ℕ → ℕ → ℕ) (n : ℕ) (table : List
 
   -- the smallest dependency that k sweeps leave out is the lowest member of the row outside layer k
   next-below : (layer : List ℕ) (k : ℕ) → ((i : ℕ) → i < n → has layer i ≡ left k i) → (i : ℕ) → i < n → (j : ℕ) → j < num i
-      → dep i j ≡ next num dep permitted room k i → left k (dep i j) ≡ false → At (next num dep permitted room k i) ≡ next_below table layer i
+      → dep i j ≡ next num dep permitted room k i → left k (dep i j) ≡ false → Some (next num dep permitted room k i) ≡ next_below table layer i
   unfolding next_below member_outside
-  next-below layer k f i h j q e out = first-is room outside {r = At s} (low, here, before)
+  next-below layer k f i h j q e out = first-is room outside {r = Some s} (low, here, before)
     where
       outside : ℕ → Bool
       outside = member_outside (row_at table i) layer
@@ -78,7 +77,7 @@ module _ (num : ℕ → ℕ) (dep : ℕ → ℕ → ℕ) (n : ℕ) (table : List
       let r = way-chain layers k s (subst (λ (x : ℕ). x < n) w.2 (shows.below.below i h w.0 w.1)) (λ m q. f m (omega arith))
       (λ m q. subst (λ (x : ℕ). left m x ≡ true) w.2 (sweeps-dependencies num dep permitted m i (held (suc m) (omega arith)) w.0 w.1))
       (subst (λ (x : ℕ). left k x ≡ false) w.2 w.3) in
-      let way : way_down table layers (suc k) i ≡ i ∷ way_down table layers k s = ap (λ (x : Position). i ∷ on_from (way_down table layers k) x) (sym e) in
+      let way : way_down table layers (suc k) i ≡ i ∷ way_down table layers k s = ap (λ (x : Option ℕ). i ∷ on_from (way_down table layers k) x) (sym e) in
       record {
         chain = way ∙ rw here (ap (λ (c : List ℕ). i ∷ c) r.chain);
         low = subst (AllBelow n) (sym way) (h, r.low);

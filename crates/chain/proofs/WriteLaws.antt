@@ -1,5 +1,6 @@
 -- Laws of a chain that is written a position at a time. Assumes nothing.
-use Prim.Native.Nat.{ℕ, zero, suc, ◌+◌, ◌-◌, ◌≤◌, ◌<◌}
+use Rattle.std.specs.Prelude.{Option, None, Some}
+use Prim.Native.Nat.{ℕ, zero, suc, ◌+◌, ◌≤◌, ◌<◌}
 use mathlib.Core.Path.{◌≡◌, refl, sym, ap, ap₂, subst, ◌∙◌}
 use mathlib.Core.List.{List, [], ◌∷◌, ◌++◌}
 use native.Mathlib.Omega.{arith}
@@ -7,8 +8,6 @@ use lib.ListN.{length, get_or, set, drop, length-append}
 use lib.Seq.{drop-cons, set_at, append_snoc}
 use Rattle.cells.specs.Buffer.{written}
 use Rattle.cells.proofs.Buffer.{written_none, length-written}
-use Rattle.positions.specs.declared.Position.{Position}
-use Rattle.positions.specs.declared.Position.TheVariants.{Nowhere, At}
 use Rattle.positions.specs.Below.{first_that}
 use Rattle.positions.specs.Sets.{room, member_outside}
 use Rattle.record.specs.Record.{most_features}
@@ -46,10 +45,18 @@ pub record Writing (table : List ℕ) (layers : ℕ → List ℕ) (held i : ℕ)
   pub same : front ++ way_down table layers k at ≡ way_down table layers held i
   pub low : AllBelow most_features (way_down table layers k at)
 
-pub write-begins : (table : List ℕ) (layers : ℕ → List ℕ) {held i : ℕ} (old : List ℕ) → held ≤ most_features → held < length old
-    → AllBelow most_features (way_down table layers held i) → Writing table layers held i old old i held 0
-write-begins table layers old few fits low =
-    record { steps = omega arith; few = few; fits = fits; front = []; long = refl; holds = sym (written_none old 0); same = refl; low = low }
+pub write-begins : (table : List ℕ) (layers : ℕ → List ℕ) {held i k : ℕ} (old : List ℕ) → k ≡ held → held ≤ most_features → held < length old
+    → AllBelow most_features (way_down table layers held i) → Writing table layers held i old old i k 0
+write-begins table layers {i = i} old e few fits low = record {
+  steps = omega arith;
+  few = few;
+  fits = fits;
+  front = [];
+  long = refl;
+  holds = sym (written_none old 0);
+  same = ap (λ (n : ℕ). way_down table layers n i) e;
+  low = rw e low;
+}
 
 module _ {table : List ℕ} {layers : ℕ → List ℕ} {held i : ℕ} {old out : List ℕ} {at k place : ℕ} (w : Writing table layers held i old out at k place) where
   pub write_low : at < most_features
@@ -64,18 +71,19 @@ module _ {table : List ℕ} {layers : ℕ → List ℕ} {held i : ℕ} {old out 
       ∙ written-more old w.front at (omega (arith, w.steps, w.fits, w.long))
 
   -- what is behind the position at hand
-  module _ {row : List ℕ} {next : Position} (h : 0 < k) (r : row ≡ row_or_none table at) (e : next ≡ first_that room (member_outside row (layers (k - 1)))) where
-    way_on : way_down table layers k at ≡ at ∷ on_from (way_down table layers (k - 1)) next
+  module _ {m : ℕ} {row : List ℕ} {next : Option ℕ} (h : k ≡ suc m) (r : row ≡ row_or_none table at)
+      (e : next ≡ first_that room (member_outside row (layers m))) where
+    way_on : way_down table layers k at ≡ at ∷ on_from (way_down table layers m) next
     unfolding next_below
     way_on =
-        way-more table layers k (k - 1) at (omega arith)
-        ∙ ap (λ (x : Position). at ∷ on_from (way_down table layers (k - 1)) x)
-        (ap (λ (x : List ℕ). first_that room (member_outside x (layers (k - 1)))) (sym (r ∙ row_low table at write_low)) ∙ sym e)
+        way-more table layers k m at h
+        ∙ ap (λ (x : Option ℕ). at ∷ on_from (way_down table layers m) x)
+        (ap (λ (x : List ℕ). first_that room (member_outside x (layers m))) (sym (r ∙ row_low table at write_low)) ∙ sym e)
 
-    pub write-more : {j : ℕ} → next ≡ At j → Writing table layers held i old (set out place at) j (k - 1) (place + 1)
+    pub write-more : {j : ℕ} → next ≡ Some j → Writing table layers held i old (set out place at) j m (place + 1)
     write-more {j} q =
-        let way : way_down table layers k at ≡ at ∷ way_down table layers (k - 1) j
-        = way_on ∙ ap (λ (x : Position). at ∷ on_from (way_down table layers (k - 1)) x) q in
+        let way : way_down table layers k at ≡ at ∷ way_down table layers m j
+        = way_on ∙ ap (λ (x : Option ℕ). at ∷ on_from (way_down table layers m) x) q in
         record {
           steps = omega (arith, w.steps);
           few = w.few;
@@ -83,17 +91,19 @@ module _ {table : List ℕ} {layers : ℕ → List ℕ} {held i : ℕ} {old out 
           front = w.front ++ at ∷ [];
           long = omega (arith, length-append w.front (at ∷ []), w.long);
           holds = put;
-          same = append_snoc w.front at (way_down table layers (k - 1) j) ∙ ap (λ (l : List ℕ). w.front ++ l) (sym way) ∙ w.same;
+          same = append_snoc w.front at (way_down table layers m j) ∙ ap (λ (l : List ℕ). w.front ++ l) (sym way) ∙ w.same;
           low = (subst (AllBelow most_features) way w.low).1;
         }
 
-    pub write-stops : next ≡ Nowhere → set out place at ≡ written old 0 (way_down table layers held i)
+    pub write-stops : next ≡ None → set out place at ≡ written old 0 (way_down table layers held i)
     write-stops q =
         put ∙ ap (written old 0)
-        (ap (λ (l : List ℕ). w.front ++ l) (sym (way_on ∙ ap (λ (x : Position). at ∷ on_from (way_down table layers (k - 1)) x) q)) ∙ w.same)
+        (ap (λ (l : List ℕ). w.front ++ l) (sym (way_on ∙ ap (λ (x : Option ℕ). at ∷ on_from (way_down table layers m) x) q)) ∙ w.same)
 
-  pub write-ends : k ≤ 0 → set out place at ≡ written old 0 (way_down table layers held i)
+  -- all layers are passed
+  pub write-ends : place ≡ held → set out held at ≡ written old 0 (way_down table layers held i)
   unfolding way_down
   write-ends h =
-      let z : k ≡ 0 = omega arith in
-      put ∙ ap (written old 0) (ap (λ (m : ℕ). w.front ++ way_down table layers m at) (sym z) ∙ w.same)
+      let z : k ≡ 0 = omega (arith, w.steps) in
+      ap (λ (n : ℕ). set out n at) (sym h)
+      ∙ put ∙ ap (written old 0) (ap (λ (m : ℕ). w.front ++ way_down table layers m at) (sym z) ∙ w.same)

@@ -1,7 +1,8 @@
 -- The chain that is reported for a feature left out (document 01, "Permitted and enabled").
-use Rattle.std.specs.Prelude.{ℕ, Bool, not, List, [], ◌∷◌, ◌++◌, leb, ltb, length}
-use Rattle.refusal.specs.Refusal.{Outcome, answer, refuse, number_of}
+use Rattle.std.specs.Prelude.{ℕ, Bool, not, List, [], ◌∷◌, ◌++◌, leb, ltb, length, Result}
+use Rattle.refusal.specs.Refusal.{Outcome, answer, refuse, outcome_of}
 use Rattle.refusal.specs.Checks.{Check, check, first_fault}
+use Rattle.refusal.specs.declared.Refusal.{Refusal}
 use Rattle.cells.specs.Buffer.{after_writing}
 use Rattle.positions.specs.Sets.{room, has}
 use Rattle.record.specs.declared.Record.{Record}
@@ -11,7 +12,6 @@ use Rattle.permitted.specs.Asked.{asked_checks}
 use Rattle.closure.specs.Enabled.{enabled}
 use Rattle.closure.specs.Shortest.{shortest_chain}
 use Rattle.closure.specs.Graph.{dependencies_in, dependency_in}
-use Rattle.chain.specs.declared.ChainTold.{ChainTold}
 
 -- whether a position is enabled, where those of a set are permitted
 abbrev pub is_enabled : Record → List ℕ → ℕ → Bool
@@ -40,5 +40,6 @@ unfoldable pub after_chain : Record → ℕ → Grants → ℕ → List ℕ → 
 after_chain r level g i old =
     after_writing (chain_checks r level g i (length old)) old 0 (chain_in r (permitted_set r level g) i)
 
-abbrev pub chain_outcome : ChainTold → Outcome ℕ
-chain_outcome t = record { number = number_of t.refusal; value = t.length }
+-- what a call says: the number of document 01, and its value
+abbrev pub chain_outcome : Result ℕ Refusal → Outcome ℕ
+chain_outcome t = outcome_of (λ (n : ℕ). n) 0 t

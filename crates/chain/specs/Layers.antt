@@ -1,10 +1,10 @@
 -- What the functions behind the chain promise: what each sweep leaves, and the way down from a position (document 01, "Permitted and enabled").
-use Rattle.std.specs.Prelude.{ℕ, zero, suc, ◌≤◌, ◌<◌, ◌≡◌, Bool, true, false, ◌&&◌, List, [], ◌∷◌, length, get_or}
+use Rattle.std.specs.Prelude.{ℕ, zero, suc, ◌≤◌, ◌<◌, ◌≡◌, Bool, true, false, ◌&&◌, List, [], ◌∷◌, length, get_or, Option, None, Some, Result, Ok, Err}
 use Rattle.refusal.specs.Refusal.{answer, refuse}
 use Rattle.refusal.specs.Checks.{Check, first_fault}
+use Rattle.refusal.specs.declared.Refusal.{Refusal}
+use Rattle.refusal.specs.declared.Refusal.TheVariants.{FeatureEnabled}
 use Rattle.cells.specs.Buffer.{after_writing}
-use Rattle.positions.specs.declared.Position.{Position}
-use Rattle.positions.specs.declared.Position.TheVariants.{Nowhere, At}
 use Rattle.positions.specs.declared.Set.{Set}
 use Rattle.positions.specs.Below.{first_that}
 use Rattle.positions.specs.Sets.{set_words, room, has, collect, is_subset, member_outside}
@@ -13,7 +13,6 @@ use Rattle.closure.specs.Enabled.{enabled}
 use Rattle.closure.specs.Shortest.{shortest_chain}
 use Rattle.enabled.specs.Parts.{Shows}
 use Rattle.chain.specs.Chain.{position_checks, chain_outcome}
-use Rattle.chain.specs.declared.ChainTold.{ChainTold}
 use Rattle.chain.specs.declared.Layers.{Layers}
 
 -- one sweep: the members of s below n whose rows are inside s
@@ -32,22 +31,26 @@ layer_at table n permitted (suc k) = swept table n (layer_at table n permitted k
 abbrev pub set_at : List Set → ℕ → List ℕ
 set_at sets k = (get_or sets k (record { words = [] })).words
 
--- the first layers, each of which holds i; the next does not, or every one does
-pub record Falls (table : List ℕ) (n : ℕ) (permitted : List ℕ) (i : ℕ) (l : Layers) : Type 0 where
+-- the first layers, each of which holds i; the next does not
+pub record Held (table : List ℕ) (n : ℕ) (permitted : List ℕ) (i : ℕ) (l : Layers) : Type 0 where
   pub within : l.held ≤ n
   pub layers : (k : ℕ) → k < l.held → set_at l.sets k ≡ layer_at table n permitted k
   pub holds : (k : ℕ) → k < l.held → has (layer_at table n permitted k) i ≡ true
-  pub out : l.enabled ≡ false → has (layer_at table n permitted l.held) i ≡ false
-  pub stays : l.enabled ≡ true → has (layer_at table n permitted n) i ≡ true
+  pub out : has (layer_at table n permitted l.held) i ≡ false
 
--- "each next is a dependency of the one before": the smallest in row i that is not in a layer; nowhere where there is none
-unfoldable pub next_below : List ℕ → List ℕ → ℕ → Position
+-- or every one does: i is enabled
+abbrev pub Falls : List ℕ → ℕ → List ℕ → ℕ → Result Layers Refusal → Type 0
+Falls table n permitted i (Ok l) = Held table n permitted i l
+Falls table n permitted i (Err e) = (e ≡ FeatureEnabled) × (has (layer_at table n permitted n) i ≡ true)
+
+-- "each next is a dependency of the one before": the smallest in row i that is not in a layer; if there is one
+unfoldable pub next_below : List ℕ → List ℕ → ℕ → Option ℕ
 next_below table layer i = first_that room (member_outside (row_at table i) layer)
 
--- the positions from one on; none from nowhere
-abbrev pub on_from : (ℕ → List ℕ) → Position → List ℕ
-on_from f Nowhere = []
-on_from f (At i) = f i
+-- the positions from one on, if there is one
+abbrev pub on_from : (ℕ → List ℕ) → Option ℕ → List ℕ
+on_from f None = []
+on_from f (Some i) = f i
 
 -- from i, which k layers hold, down to a position that none holds; it ends where there is no next
 unfoldable pub way_down : List ℕ → (ℕ → List ℕ) → ℕ → ℕ → List ℕ
@@ -71,7 +74,7 @@ pub record ShowsSome (n : ℕ) (table : List ℕ) : Type 0 where
   pub shows : Shows num dep n (row_at table)
 
 -- how the call ends, and the later bytes of the lent buffer, by every graph that a table shows
-pub record Tells (table : List ℕ) (n : ℕ) (permitted : List ℕ) (i : ℕ) (old new : List ℕ) (t : ChainTold) : Type 0 where
+pub record Tells (table : List ℕ) (n : ℕ) (permitted : List ℕ) (i : ℕ) (old new : List ℕ) (t : Result ℕ Refusal) : Type 0 where
   pub outcome : (num : ℕ → ℕ) (dep : ℕ → ℕ → ℕ) → Shows num dep n (row_at table)
       → chain_outcome t ≡ first_fault (refuse 0) (graph_checks num dep n permitted i (length old)) (answer (length (shortest_chain num dep (has permitted) room n i)))
   pub bytes : (num : ℕ → ℕ) (dep : ℕ → ℕ → ℕ) → Shows num dep n (row_at table)

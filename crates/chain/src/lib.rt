@@ -2,7 +2,6 @@
 #![tactic(auto)]
 
 ghost use Rattle.std.specs.Prelude.{◌≡◌, ◌≤◌, ◌<◌, length};
-ghost use Rattle.refusal.specs.Refusal.{refuse, number_of};
 ghost use Rattle.cells.specs.Buffer.{written};
 ghost use Rattle.record.specs.Record.{most_features};
 ghost use Rattle.chain.specs.Layers.{swept, set_at, Falls, way_down, AllBelow, ShowsSome, Tells};
@@ -11,23 +10,14 @@ ghost use Rattle.chain.specs.Chain.{chain as chain_of, after_chain, chain_outcom
 ghost use Rattle.chain.specs.Slots.{chain_by_slots, after_chain_by_slots};
 
 use permitted::Grants;
-use positions::{Position, Set};
+use positions::Set;
 use record::{MOST_FEATURES, Record, SLOTS};
 use refusal::Refusal;
 use tables::TABLE_WORDS;
 
-// A refusal, or how many positions the chain has; 0 beside a refusal.
-#[derive(Clone, Copy)]
-pub struct ChainTold {
-    pub refusal: Refusal,
-    pub length: u32,
-}
-
-// What sweeps leave of the permitted set, the set itself first: the first `held` of these layers hold a position. The next does not hold
-// it; or the position is enabled.
+// What sweeps leave of the permitted set, the set itself first: the first `held` of these layers hold a position, and the next does not.
 #[derive(Clone, Copy)]
 struct Layers {
-    enabled: bool,
     held: usize,
     sets: [Set; MOST_FEATURES],
 }
@@ -48,39 +38,29 @@ fn layer(table: &[u64; TABLE_WORDS], n: usize, s: Set) -> Set
     sets::intersection(s, tables::inside_rows(table, n, s))
 }
 
-// The layers of a set that hold position `i`. At most `n` rounds: each is one sweep, and compares two sets, a step a word.
-fn fall(table: &[u64; TABLE_WORDS], n: usize, p: Set, i: usize) -> Layers
+// The layers of a set that hold position `i`; a refusal where the position is enabled, so that every layer does. At most `n` rounds: each
+// is one sweep, and compares two sets, a step a word.
+fn fall(table: &[u64; TABLE_WORDS], n: usize, p: Set, i: usize) -> Result<Layers, Refusal>
     requires { (n ≤ most_features) × (i < n) }
     ensures { Falls table.now n p.words i result }
 {
     let mut sets = [positions::empty(); MOST_FEATURES];
     let mut s = p;
-    let mut k: usize = 0;
-    while k < n {
+    for k in 0..n {
         if !positions::member(s, i) {
-            return Layers {
-                enabled: false,
-                held: k,
-                sets,
-            };
+            return Ok(Layers { held: k, sets });
         }
         let t = layer(table, n, s);
         if sets::subset(s, t) {
-            return Layers {
-                enabled: true,
-                held: k,
-                sets,
-            };
+            return Err(Refusal::FeatureEnabled);
         }
         sets[k] = s;
         s = t;
-        k += 1;
     }
-    Layers {
-        enabled: positions::member(s, i),
-        held: n,
-        sets,
+    if positions::member(s, i) {
+        return Err(Refusal::FeatureEnabled);
     }
+    Ok(Layers { held: n, sets })
 }
 
 // The way from position `i` down the layers that hold it, into the front of a lent buffer: the lowest dependency outside the last of them,
@@ -94,63 +74,55 @@ fn write_chain(table: &[u64; TABLE_WORDS], l: Layers, i: usize, out: &mut [u8])
         ≡ written out.old 0 (way_down table.now (set_at l.sets) l.held i) }
 {
     let mut at = i;
-    let mut k = l.held;
-    let mut place: usize = 0;
-    while 0 < k {
+    for place in 0..l.held {
         out[place] = at as u8;
-        place += 1;
-        k -= 1;
-        let s = l.sets[k];
+        let s = l.sets[l.held - (place + 1)];
         match sets::lowest_outside(tables::row(table, at), s) {
-            Position::At(j) => at = j,
-            Position::Nowhere => return,
+            Some(next) => at = next,
+            None => return,
         }
     }
-    out[place] = at as u8;
-}
-
-fn refused(refusal: Refusal) -> ChainTold
-    ensures { chain_outcome result ≡ refuse 0 (number_of refusal) }
-{
-    ChainTold { refusal, length: 0 }
+    out[l.held] = at as u8;
 }
 
 // The chain from position `i` of the graph that a table shows, where the members of a set are permitted: at most `n` sweeps of `n` rows.
-fn chain_in(table: &[u64; TABLE_WORDS], n: usize, p: Set, i: usize, out: &mut [u8]) -> ChainTold
+fn chain_in(
+    table: &[u64; TABLE_WORDS],
+    n: usize,
+    p: Set,
+    i: usize,
+    out: &mut [u8],
+) -> Result<u32, Refusal>
     requires { (n ≤ most_features) × ShowsSome n table.now }
     ensures { Tells table.now n p.words i out.old out.new result }
 {
     if n <= i {
-        return refused(Refusal::Position);
+        return Err(Refusal::Position);
     }
-    let layers = fall(table, n, p, i);
-    if layers.enabled {
-        return refused(Refusal::FeatureEnabled);
-    }
+    let layers = fall(table, n, p, i)?;
     let length = layers.held + 1;
     if out.len() < length {
-        return refused(Refusal::BufferLength);
+        return Err(Refusal::BufferLength);
     }
     write_chain(table, layers, i, out);
-    ChainTold {
-        refusal: Refusal::None,
-        length: length as u32,
-    }
+    Ok(length as u32)
 }
 
 // The shortest chain of dependencies from a feature that is left out to one that is not permitted, of equally short ones the one with the
 // smallest positions: a byte a position, into the front of a lent buffer. Refusals: 14, 15, 16, 17, 18. At most 64 sweeps of 64 rows.
-pub fn chain(r: Record, level: u32, g: Grants, position: u32, out: &mut [u8]) -> ChainTold
+pub fn chain(
+    r: Record,
+    level: u32,
+    g: Grants,
+    position: u32,
+    out: &mut [u8],
+) -> Result<u32, Refusal>
     ensures result_value { chain_outcome result ≡ chain_of r level g position (length out.old) }
     ensures out_after { out.new ≡ after_chain r level g position out.old }
 {
-    let n = cells::least(r.count as usize, MOST_FEATURES);
+    let n = (r.count as usize).min(MOST_FEATURES);
     let slots = r.slots;
-    let x = permitted::examine(r, level, g);
-    let refusal = x.refusal;
-    if refusal::number(refusal) != 0 {
-        return refused(refusal);
-    }
+    let x = permitted::examine(r, level, g)?;
     let rows = tables::dependency_rows(&slots, &x.counts, n);
     chain_in(&rows.words, n, x.set, position as usize, out)
 }
@@ -162,13 +134,11 @@ fn bounded_part(slots: &[u16; SLOTS], counts: &[u8; MOST_FEATURES], n: usize) ->
 {
     let mut set = positions::empty();
     let mut used: [u8; MOST_FEATURES] = [0; MOST_FEATURES];
-    let mut i: usize = 0;
-    while i < n {
+    for i in 0..n {
         if form::slots_fit(slots, n as u32, i, tables::used(counts, i)) {
             set = positions::insert(set, i);
             used[i] = counts[i];
         }
-        i += 1;
     }
     Bounded { set, counts: used }
 }
@@ -182,15 +152,14 @@ pub fn chain_by_slots(
     p: Set,
     i: usize,
     out: &mut [u8],
-) -> ChainTold
+) -> Result<u32, Refusal>
     ensures result_value { chain_outcome result
         ≡ chain_by_slots slots.now counts.now n p.words i (length out.old) }
     ensures out_after { out.new
         ≡ after_chain_by_slots slots.now counts.now n p.words i out.old }
 {
-    let m = cells::least(n, MOST_FEATURES);
+    let m = n.min(MOST_FEATURES);
     let x = bounded_part(slots, counts, m);
-    let bounded = x.set;
     let rows = tables::dependency_rows(slots, &x.counts, m);
-    chain_in(&rows.words, m, sets::intersection(p, bounded), i, out)
+    chain_in(&rows.words, m, sets::intersection(p, x.set), i, out)
 }

@@ -1,10 +1,6 @@
 -- The invariant of `chain::bounded_part`.
-use Prim.Native.Nat.{◌-◌}
 use Rattle.chain.proofs.BoundedLaws.{BoundedTo}
 use Rattle.chain.proofs.bounded_part.Given as goal
 
 abbrev pub invariant-loop-i : goal.invariant-loop-i
 invariant-loop-i l = BoundedTo l.slots l.counts l.n l.i l.set.words l.used
-
-abbrev pub decreases-loop-i : goal.decreases-loop-i
-decreases-loop-i l = l.n - l.i
