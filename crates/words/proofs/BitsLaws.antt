@@ -17,7 +17,7 @@ use Rattle.record.specs.Record.{feature_at}
 use Rattle.record.specs.Cells.{cell, low_bit}
 use Rattle.words.specs.declared.Bits.{Bits}
 use Rattle.words.specs.Words.{WordValues, capability_word, register_word, words_of, word_of, is_number, capability_bit, support_bit}
-use Rattle.words.specs.Parts.{below_level, bit_where, FeatureBits, BitsOf, levelled}
+use Rattle.words.specs.Parts.{below_level, bit_where, FeatureBits, bits_of_both, BitsOf, levelled}
 use Rattle.words.proofs.WordLaws.{word_and, word-below, word_none, word-or}
 
 -- the tests of one feature
@@ -36,12 +36,12 @@ unfolding some
 word_more t i e k = rw (e, k, add-one i) (word-or (λ (b : ℕ). some i (λ (j : ℕ). t j b)) (t i))
 
 -- the words of the features below a position
-pub record BitsBelow (r : Record) (enabled : List ℕ) (i hwcap hfscr fscr : ℕ) : Type 0 where
-  pub capability : hwcap ≡ word_below i (capability_test r enabled)
-  pub hypervisor : hfscr ≡ word_below i (support_test r enabled HvSupport HfscrBitNr)
-  pub system : fscr ≡ word_below i (support_test r enabled OsSupport FscrBitNr)
+pub record BitsBelow (r : Record) (enabled : List ℕ) (i : ℕ) (x : Bits) : Type 0 where
+  pub capability : x.hwcap ≡ word_below i (capability_test r enabled)
+  pub hypervisor : x.hfscr ≡ word_below i (support_test r enabled HvSupport HfscrBitNr)
+  pub system : x.fscr ≡ word_below i (support_test r enabled OsSupport FscrBitNr)
 
-pub bits-begin : (r : Record) (enabled : List ℕ) → BitsBelow r enabled 0 0 0 0
+pub bits-begin : (r : Record) (enabled : List ℕ) → BitsBelow r enabled 0 (record { hwcap = 0; hfscr = 0; fscr = 0 })
 unfolding some
 bits-begin r enabled = record {
   capability = word_none (λ (b : ℕ). false) (λ i l. refl);
@@ -49,20 +49,19 @@ bits-begin r enabled = record {
   system = word_none (λ (b : ℕ). false) (λ i l. refl);
 }
 
-pub bits-more : (r : Record) (enabled : List ℕ) (i : ℕ) {hwcap hfscr fscr : ℕ} {on : Bool} {x : Bits} → BitsBelow r enabled i hwcap hfscr fscr
-    → on ≡ has enabled i → FeatureBits (feature_at r i) on x
-    → BitsBelow r enabled (i + 1) (bit_or hwcap x.hwcap) (bit_or hfscr x.hfscr) (bit_or fscr x.fscr)
+pub bits-more : (r : Record) (enabled : List ℕ) (i : ℕ) {on : Bool} {x y z : Bits} → BitsBelow r enabled i x → on ≡ has enabled i
+    → FeatureBits (feature_at r i) on y → z ≡ bits_of_both x y → BitsBelow r enabled (i + 1) z
 unfolding bit_where
-bits-more r enabled i {x = x} w e f =
-    let g = subst (λ (b : Bool). FeatureBits (feature_at r i) b x) e f in
-    record {
+bits-more r enabled i {y = y} w e f q =
+    let g = subst (λ (b : Bool). FeatureBits (feature_at r i) b y) e f in
+    rw q
+    (record {
       capability = word_more (capability_test r enabled) i w.capability g.hwcap;
       hypervisor = word_more (support_test r enabled HvSupport HfscrBitNr) i w.hypervisor g.hfscr;
       system = word_more (support_test r enabled OsSupport FscrBitNr) i w.system g.fscr;
-    }
+    })
 
-pub bits-all : (r : Record) (enabled : List ℕ) {i hwcap hfscr fscr : ℕ} → i ≡ r.count → BitsBelow r enabled i hwcap hfscr fscr
-    → BitsOf r enabled (record { hwcap = hwcap; hfscr = hfscr; fscr = fscr })
+pub bits-all : (r : Record) (enabled : List ℕ) {i : ℕ} {x : Bits} → i ≡ r.count → BitsBelow r enabled i x → BitsOf r enabled x
 unfolding capability_bit support_bit
 bits-all r enabled e w = record {
   hwcap = w.capability ∙ ap (λ (n : ℕ). word_below n (capability_test r enabled)) e;

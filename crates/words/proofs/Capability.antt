@@ -1,4 +1,5 @@
 -- The capability words are exactly the bits of the enabled features that have one. Assumes nothing.
+use Rattle.std.specs.Prelude.{Option, None, Some}
 use Prim.Native.Nat.{ℕ, ◌+◌, ◌^◌, ◌≤◌, ◌<◌}
 use mathlib.Core.Path.{◌≡◌, refl, sym, ap, subst, ◌∙◌}
 use mathlib.Core.Bool.{Bool, true, false, ◌&&◌}
@@ -14,8 +15,6 @@ use Rattle.positions.specs.Sets.{has}
 use Rattle.positions.proofs.BelowLaws.{and_left, and_right, no_way, some_at, some_is}
 use Rattle.positions.proofs.BitLaws.{bit-low, bit_high}
 use Rattle.record.specs.declared.Record.{Record}
-use Rattle.record.specs.declared.Cell.{Cell}
-use Rattle.record.specs.declared.Cell.TheVariants.{Absent, Given}
 use Rattle.record.specs.declared.Property.TheVariants.{HwcapBitNr}
 use Rattle.record.specs.Record.{feature_at}
 use Rattle.record.specs.Cells.{cell}
@@ -29,11 +28,11 @@ use Rattle.words.specs.Capability.{SetsBit, CapabilityWords}
 use Rattle.words.proofs.WordLaws.{bit_word, word_small}
 
 -- a cell that is given as a number
-is-number : (c : Cell) (b : ℕ) → is_number c b ≡ true → c ≡ Given b
-is-number Absent b e = no_way false e refl
-is-number (Given n) b e = ap Given (eqb-true n b e)
+is-number : (c : Option ℕ) (b : ℕ) → is_number c b ≡ true → c ≡ Some b
+is-number None b e = no_way false e refl
+is-number (Some n) b e = ap Some (eqb-true n b e)
 
-number_is : (c : Cell) (b : ℕ) → c ≡ Given b → is_number c b ≡ true
+number_is : (c : Option ℕ) (b : ℕ) → c ≡ Some b → is_number c b ≡ true
 number_is c b e = rw e (eq-eqb b b refl)
 
 module _ (r : Record) (level : ℕ) (enabled : List ℕ) (b : ℕ) where

@@ -1,9 +1,10 @@
 -- Words by the bits that pass a test. Assumes nothing.
+use Rattle.std.specs.Prelude.{Option, None, Some}
 use Prim.Native.Nat.{ℕ, ◌+◌, ◌*◌, ◌%◌, ◌^◌, ◌≤◌, ◌<◌}
 use mathlib.Core.Path.{◌≡◌, refl, sym, ap, ◌∙◌}
 use mathlib.Core.Bool.{Bool, true, false, ◌&&◌, ◌||◌, cond}
 use native.Mathlib.Omega.{arith}
-use borrow.Author.Tests.{lt-ltb, le-ltb, ne_eqb}
+use borrow.Author.Tests.{lt-ltb, ne_eqb}
 use lib.Bits.{bit_and, bit_or, or_lt, and_le_l}
 use native.Mathlib.Nat.{lt_of_le_of_lt}
 use lib.Dec.{ltb}
@@ -12,8 +13,6 @@ use Rattle.positions.specs.Bits.{bit}
 use Rattle.positions.specs.Sets.{word_bits, has, collect}
 use Rattle.positions.proofs.BitLaws.{bit-none, bit-and, bit-or, bit-pow, bit-ext}
 use Rattle.positions.proofs.SetLaws.{has-at, has-collect, collect-words}
-use Rattle.record.specs.declared.Cell.{Cell}
-use Rattle.record.specs.declared.Cell.TheVariants.{Absent, Given}
 use Rattle.words.specs.Words.{word_of, is_number}
 use Rattle.words.specs.Parts.{bit_where, below_level}
 
@@ -58,20 +57,12 @@ word-below p upper level e k = k ∙ rw e (go (ltb level upper))
     go true = refl
     go false = word_none (λ (n : ℕ). false) (λ i l. refl)
 
-pub level-below : (upper level w : ℕ) → level < upper → w ≡ below_level upper level w
-unfolding below_level
-level-below upper level w h = rw (lt-ltb level upper h)
-
-pub level-above : (upper level w : ℕ) → upper ≤ level → 0 ≡ below_level upper level w
-unfolding below_level
-level-above upper level w h = rw (le-ltb level upper h)
-
 -- the bit of a number
-pub bit-off : (b : Bool) (c : Cell) → b ≡ false → 0 ≡ bit_where b c
+pub bit-off : (b : Bool) (c : Option ℕ) → b ≡ false → 0 ≡ bit_where b c
 unfolding bit_where
 bit-off b c e = word_none (λ (n : ℕ). b && is_number c n) (λ i l. rw e)
 
-pub bit-absent : (b : Bool) {c : Cell} → c ≡ Absent → 0 ≡ bit_where b c
+pub bit-absent : (b : Bool) {c : Option ℕ} → c ≡ None → 0 ≡ bit_where b c
 unfolding bit_where
 bit-absent b {c} e = word_none (λ (n : ℕ). b && is_number c n) (λ i l. rw e (go b))
   where
@@ -79,7 +70,7 @@ bit-absent b {c} e = word_none (λ (n : ℕ). b && is_number c n) (λ i l. rw e 
     go true = refl
     go false = refl
 
-pub bit_high : (b : Bool) {c : Cell} {n : ℕ} → c ≡ Given n → 63 < n → 0 ≡ bit_where b c
+pub bit_high : (b : Bool) {c : Option ℕ} {n : ℕ} → c ≡ Some n → 64 ≤ n → 0 ≡ bit_where b c
 unfolding bit_where
 bit_high b {c} {n} e h = word_none (λ (m : ℕ). b && is_number c m) (λ i l. rw (e, ne_eqb n i (λ q. absurd (omega arith))) (go b))
   where
@@ -87,8 +78,10 @@ bit_high b {c} {n} e h = word_none (λ (m : ℕ). b && is_number c m) (λ i l. r
     go true = refl
     go false = refl
 
-pub bit-on : {b : Bool} {c : Cell} {n : ℕ} → b ≡ true → c ≡ Given n → n ≤ 63 → 1 * 2 ^ n % 2 ^ 64 ≡ bit_where b c
+pub bit-on : {b : Bool} {c : Option ℕ} {n : ℕ} → b ≡ true → c ≡ Some n → n < 64 → 1 * 2 ^ n % 2 ^ 64 ≡ bit_where b c
 unfolding bit_where
 bit-on {b} {c} {n} e k h =
     let s : 1 * 2 ^ n % 2 ^ 64 ≡ 2 ^ n = shl_exact 1 n 64 (omega arith) (omega arith) ∙ omega arith in
     s ∙ word-is (2 ^ n) (λ (m : ℕ). b && is_number c m) (pow-lt {j = 64} (omega arith)) (λ i l. bit-pow n i ∙ rw (e, k))
+
+pub ruleset bits_where = (bit-off, bit-absent, bit_high, bit-on)

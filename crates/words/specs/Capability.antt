@@ -1,11 +1,10 @@
 -- What the capability words say (document 01, "Permitted and enabled": "Words"; A2).
-use Rattle.std.specs.Prelude.{ℕ, ◌+◌, ◌^◌, ◌<◌, ◌≡◌, true, List, ◌↔◌}
+use Rattle.std.specs.Prelude.{ℕ, ◌+◌, ◌^◌, ◌<◌, ◌≡◌, true, List, ◌↔◌, Some}
 use Rattle.refusal.specs.Refusal.{Outcome}
 use Rattle.positions.specs.Bits.{bit}
 use Rattle.positions.specs.Sets.{has}
 use Rattle.record.specs.declared.Record.{Record}
 use Rattle.record.specs.declared.Property.TheVariants.{HwcapBitNr}
-use Rattle.record.specs.declared.Cell.TheVariants.{Given}
 use Rattle.record.specs.Record.{feature_at}
 use Rattle.record.specs.Cells.{cell}
 use Rattle.permitted.specs.declared.Grants.{Grants}
@@ -19,7 +18,7 @@ pub record SetsBit (r : Record) (level : ℕ) (enabled : List ℕ) (b : ℕ) : T
   pub position : ℕ
   pub feature : position < r.count
   pub on : has enabled position ≡ true
-  pub number : cell (feature_at r position) HwcapBitNr ≡ Given b
+  pub number : cell (feature_at r position) HwcapBitNr ≡ Some b
 
 -- what is answered of a record, a level and grants: it is not refused, and a bit of the words is set exactly where an enabled feature has its
 -- number, "0 to 31 in the first word, 32 to 63 in the second"; so "a feature with none .. adds nothing to the capability words". The words

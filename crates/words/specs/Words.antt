@@ -1,15 +1,14 @@
 -- Capability words, HFSCR and FSCR (document 01, "Permitted and enabled": "Words, from record, level and grants").
-use Rattle.std.specs.Prelude.{ℕ, ◌/◌, ◌%◌, ◌^◌, Bool, false, ◌&&◌, List, eqb, ltb, get_or}
-use Rattle.refusal.specs.Refusal.{Outcome, answer, refuse, number_of}
+use Rattle.std.specs.Prelude.{ℕ, ◌/◌, ◌%◌, ◌^◌, Bool, false, ◌&&◌, List, eqb, ltb, get_or, Option, None, Some, Result}
+use Rattle.refusal.specs.Refusal.{Outcome, answer, refuse, outcome_of}
 use Rattle.refusal.specs.Checks.{first_fault}
+use Rattle.refusal.specs.declared.Refusal.{Refusal}
 use Rattle.positions.specs.Below.{some}
 use Rattle.positions.specs.Bits.{bit}
 use Rattle.positions.specs.Sets.{word_bits, has, collect}
 use Rattle.record.specs.declared.Record.{Record}
 use Rattle.record.specs.declared.Property.{Property}
 use Rattle.record.specs.declared.Property.TheVariants.{HvSupport, OsSupport, HfscrBitNr, FscrBitNr, HwcapBitNr}
-use Rattle.record.specs.declared.Cell.{Cell}
-use Rattle.record.specs.declared.Cell.TheVariants.{Absent, Given}
 use Rattle.record.specs.Record.{feature_at}
 use Rattle.record.specs.Cells.{cell, low_bit}
 use Rattle.permitted.specs.declared.Grants.{Grants}
@@ -23,9 +22,9 @@ unfoldable pub word_of : (ℕ → Bool) → ℕ
 word_of p = get_or (collect 1 word_bits p) 0 0
 
 -- a cell is given as a number
-abbrev pub is_number : Cell → ℕ → Bool
-is_number Absent n = false
-is_number (Given m) n = eqb m n
+abbrev pub is_number : Option ℕ → ℕ → Bool
+is_number None n = false
+is_number (Some m) n = eqb m n
 
 -- "each enabled feature sets its `hwcap-bit-nr`"
 unfoldable pub capability_bit : Record → List ℕ → ℕ → Bool
@@ -68,9 +67,10 @@ words_of r level g enabled = record {
 unfoldable pub words : Record → ℕ → Grants → Outcome WordValues
 words r level g = first_fault (refuse no_words) (asked_checks r level) (answer (words_of r level g (enabled_set r (permitted_set r level g))))
 
--- what an answer says: the number of document 01, and the words
-abbrev pub words_outcome : FeatureWords → Outcome WordValues
-words_outcome w = record {
-  number = number_of w.refusal;
-  value = record { first = w.hwcap_first; second = w.hwcap_second; hfscr = w.hfscr; fscr = w.fscr };
-}
+-- what an answer says: the words
+abbrev pub values_of : FeatureWords → WordValues
+values_of w = record { first = w.hwcap_first; second = w.hwcap_second; hfscr = w.hfscr; fscr = w.fscr }
+
+-- what a call says: the number of document 01, and the words
+abbrev pub words_outcome : Result FeatureWords Refusal → Outcome WordValues
+words_outcome w = outcome_of values_of no_words w
