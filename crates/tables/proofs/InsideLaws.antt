@@ -1,26 +1,17 @@
 -- Laws of the set by a table: the positions whose rows are inside a set. Assumes nothing.
 use Prim.Native.Nat.{ℕ, ◌+◌, ◌<◌}
 use mathlib.Core.Path.{◌≡◌, sym, ap, ◌∙◌}
-use mathlib.Core.Bool.{Bool, true, false, not, ◌||◌, cond}
+use mathlib.Core.Bool.{Bool, not, ◌||◌, cond}
 use mathlib.Core.List.{List}
 use native.Mathlib.Omega.{arith}
 use Rattle.positions.specs.Below.{every}
-use Rattle.positions.specs.Sets.{set_words, room, has, collect, set_of, no_members, with_member, is_subset}
+use Rattle.positions.specs.Sets.{set_words, room, has, collect, set_of, no_members, is_subset}
 use Rattle.positions.proofs.SetLaws.{collect-words, collect-more}
 use Rattle.positions.proofs.MemberLaws.{insert-at}
 use Rattle.positions.proofs.SetCodeLaws.{zero-words}
 use Rattle.record.specs.Record.{most_features}
 use Rattle.tables.specs.Tables.{row_at, in_row, rows_inside}
 use Rattle.tables.specs.Parts.{added_in}
-
--- the two answers of `added`
-pub added-in : (s row permitted : List ℕ) (i : ℕ) → is_subset row permitted ≡ true → with_member s i ≡ added_in s row permitted i
-unfolding added_in
-added-in s row permitted i e = rw e
-
-pub added_out : (s row permitted : List ℕ) (i : ℕ) → is_subset row permitted ≡ false → s ≡ added_in s row permitted i
-unfolding added_in
-added_out s row permitted i e = rw e
 
 module _ (table permitted : List ℕ) where
   pub inside-none : set_of no_members ≡ rows_inside table 0 permitted

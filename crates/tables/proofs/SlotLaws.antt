@@ -4,7 +4,7 @@ use mathlib.Core.Path.{◌≡◌, refl, ap, ◌∙◌}
 use mathlib.Core.Bool.{Bool, ◌||◌}
 use mathlib.Core.List.{List}
 use native.Mathlib.Numerals.{add-one}
-use borrow.Author.Tests.{lt-ltb, le-ltb}
+use borrow.Author.Tests.{lt-ltb}
 use lib.Dec.{eqb}
 use lib.ListN.{length, get_or, length-take, length-drop}
 use native.Mathlib.Omega.{arith}
@@ -21,10 +21,6 @@ use Rattle.tables.specs.Parts.{slot_set}
 pub used_low : (counts : List ℕ) (i : ℕ) → i < most_features → used_slots counts i ≡ slot_number counts i
 unfolding used_slots
 used_low counts i h = rw (lt-ltb i most_features h)
-
-pub used-past : (counts : List ℕ) (i : ℕ) → most_features ≤ i → 0 ≡ used_slots counts i
-unfolding used_slots
-used-past counts i h = rw (le-ltb i most_features h)
 
 -- the first n slots of a position, as a part of all
 module _ (slots : List ℕ) (i n : ℕ) where
