@@ -1,3 +1,4 @@
+pub mod Placed
 pub mod LookBack
 pub mod MarkLaws
 pub mod ReadLaws

@@ -195,9 +195,7 @@ pub fn read_properties(
         match cursor.step(s, end) {
             Step::Property { at, name, next, .. } => {
                 let read = marked_refusal(s, end, first, at, strings, b, name, &mut marks);
-                if let Err(refusal) = read {
-                    return Err(refusal.at(at));
-                }
+                read.map_err(|refusal| refusal.at(at))?;
                 cursor = next;
             }
             Step::Nop { next, .. } => cursor = next,
