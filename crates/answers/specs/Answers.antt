@@ -1,8 +1,7 @@
 -- What the answers for C say: the number of document 01, and a value.
-use Rattle.std.specs.Prelude.{ℕ, List}
-use Rattle.refusal.specs.Refusal.{Outcome, answer, refuse}
-use Rattle.positions.specs.declared.Position.{Position}
-use Rattle.positions.specs.declared.Position.TheVariants.{Nowhere, At}
+use Rattle.std.specs.Prelude.{ℕ, List, ◌≡◌, Option, Some, None, Result, Ok, Err}
+use Rattle.refusal.specs.Refusal.{Outcome, answer, refuse, number_of}
+use Rattle.refusal.specs.declared.Refusal.{Refusal}
 use Rattle.sizes.specs.declared.SizeTable.{SizeTable}
 use Rattle.segments.specs.declared.SegmentTable.{SegmentTable}
 use Rattle.radix.specs.declared.RadixTable.{RadixTable}
@@ -23,6 +22,11 @@ use Rattle.answers.specs.declared.YebkuzanEnabled.{YebkuzanEnabled}
 use Rattle.answers.specs.declared.YebkuzanReach.{YebkuzanReach}
 use Rattle.answers.specs.declared.YebkuzanWritten.{YebkuzanWritten}
 use Rattle.answers.specs.declared.YebkuzanWords.{YebkuzanWords}
+
+-- an outcome's number and value: 0 and the answer, or the number of the refusal and zeros
+abbrev pub IsNumbered : {A : Type 0} → (A → Type 0) → Result A Refusal → ℕ → A → Type 0
+IsNumbered zeros (Ok a) number value = (number ≡ 0) × (value ≡ a)
+IsNumbered zeros (Err e) number value = (number ≡ number_of e) × zeros value
 
 abbrev pub sizes_outcome_c : YebkuzanSizes → Outcome SizeTable
 sizes_outcome_c t = record { number = t.number; value = t.table }
@@ -49,9 +53,9 @@ abbrev pub string_place_outcome_c : YebkuzanStringPlace → Outcome ℕ
 string_place_outcome_c s = record { number = s.number; value = s.place }
 
 -- (A3) a place, or 10: "that it doesn't stand there"
-abbrev pub place_outcome : Position → Outcome ℕ
-place_outcome (At place) = answer place
-place_outcome Nowhere = refuse 0 10
+abbrev pub place_outcome : Option ℕ → Outcome ℕ
+place_outcome (Some place) = answer place
+place_outcome None = refuse 0 10
 
 abbrev pub permitted_outcome_c : YebkuzanPermitted → Outcome (List ℕ)
 permitted_outcome_c p = record { number = p.number; value = p.set.words }

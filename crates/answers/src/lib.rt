@@ -12,20 +12,17 @@ ghost use Rattle.enabled.specs.Answers.{enabled_outcome};
 ghost use Rattle.reach.specs.Answers.{reach_outcome};
 ghost use Rattle.chain.specs.Chain.{chain_outcome};
 ghost use Rattle.words.specs.Words.{words_outcome};
-ghost use Rattle.answers.specs.Answers.{sizes_outcome_c, segments_outcome_c, radix_outcome_c, pa_outcome_c, pi_outcome_c, bus_outcome_c, unit_outcome_c, string_place_outcome_c, place_outcome, permitted_outcome_c, enabled_outcome_c, reach_outcome_c, written_outcome_c, words_outcome_c};
+ghost use Rattle.refusal.specs.Refusal.{number_of};
+ghost use Rattle.answers.specs.Answers.{IsNumbered, sizes_outcome_c, segments_outcome_c, radix_outcome_c, pa_outcome_c, pi_outcome_c, bus_outcome_c, unit_outcome_c, string_place_outcome_c, place_outcome, permitted_outcome_c, enabled_outcome_c, reach_outcome_c, written_outcome_c, words_outcome_c};
 
-use attributes::{BusFrequency, PaFeatures, PaTable, PiFeatures, PiTable};
-use chain::ChainTold;
+use attributes::{PaTable, PiTable};
 use enabled::Enabled;
-use permitted::PermittedFeatures;
-use positions::{Position, Set};
-use radix::{RadixEncodings, RadixTable};
-use reach::ReachTable;
+use positions::Set;
+use radix::RadixTable;
 use refusal::Refusal;
-use segments::{SegmentPages, SegmentTable};
-use sizes::{SizeTable, Sizes};
+use segments::SegmentTable;
+use sizes::SizeTable;
 use tables::Rows;
-use unit::UnitRead;
 use words::FeatureWords;
 
 // A number, or 0 with the sizes; zeros beside a number.
@@ -136,150 +133,141 @@ pub struct YebkuzanWords {
     pub fscr: u64,
 }
 
-// Each function hands on the answer of a crate, with the number of its refusal.
-pub fn of_sizes(sizes: Sizes) -> YebkuzanSizes
-    ensures { sizes_outcome_c result ≡ sizes_outcome sizes }
+// The number of an outcome, 0 for an answer, and the answer, or zeros beside a refusal.
+pub fn numbered<T: Default>(outcome: Result<T, Refusal>) -> (u32, T)
+    ensures { IsNumbered T.is_default outcome result.0 result.1 }
 {
-    let refusal = sizes.refusal;
-    let table = sizes.table;
-    YebkuzanSizes {
-        number: refusal::number(refusal),
-        table,
+    match outcome {
+        Ok(value) => (0, value),
+        Err(refusal) => (u32::from(refusal), T::default()),
     }
 }
 
-pub fn of_segments(pages: SegmentPages) -> YebkuzanSegments
-    ensures { segments_outcome_c result ≡ segments_outcome pages }
-{
-    let refusal = pages.refusal;
-    let table = pages.table;
-    YebkuzanSegments {
-        number: refusal::number(refusal),
-        table,
+// Each conversion hands on the answer of a crate. An exported function cannot answer a struct with a type parameter, so that C needs a
+// struct for each.
+impl From<Result<SizeTable, Refusal>> for YebkuzanSizes {
+    ghost from_gives = { λ sizes result. sizes_outcome_c result ≡ sizes_outcome sizes };
+
+    fn from(sizes: Result<SizeTable, Refusal>) -> YebkuzanSizes {
+        let (number, table) = numbered(sizes);
+        YebkuzanSizes { number, table }
     }
 }
 
-pub fn of_radix_encodings(encodings: RadixEncodings) -> YebkuzanRadixEncodings
-    ensures { radix_outcome_c result ≡ radix_outcome encodings }
-{
-    let refusal = encodings.refusal;
-    let table = encodings.table;
-    YebkuzanRadixEncodings {
-        number: refusal::number(refusal),
-        table,
+impl From<Result<SegmentTable, Refusal>> for YebkuzanSegments {
+    ghost from_gives = { λ segments result. segments_outcome_c result ≡ segments_outcome segments };
+
+    fn from(segments: Result<SegmentTable, Refusal>) -> YebkuzanSegments {
+        let (number, table) = numbered(segments);
+        YebkuzanSegments { number, table }
     }
 }
 
-pub fn of_pa_features(pa: PaFeatures) -> YebkuzanPaFeatures
-    ensures { pa_outcome_c result ≡ pa_outcome pa }
-{
-    let refusal = pa.refusal;
-    let table = pa.table;
-    YebkuzanPaFeatures {
-        number: refusal::number(refusal),
-        table,
+impl From<Result<RadixTable, Refusal>> for YebkuzanRadixEncodings {
+    ghost from_gives = { λ encodings result. radix_outcome_c result ≡ radix_outcome encodings };
+
+    fn from(encodings: Result<RadixTable, Refusal>) -> YebkuzanRadixEncodings {
+        let (number, table) = numbered(encodings);
+        YebkuzanRadixEncodings { number, table }
     }
 }
 
-pub fn of_pi_features(pi: PiFeatures) -> YebkuzanPiFeatures
-    ensures { pi_outcome_c result ≡ pi_outcome pi }
-{
-    let refusal = pi.refusal;
-    let table = pi.table;
-    YebkuzanPiFeatures {
-        number: refusal::number(refusal),
-        table,
+impl From<Result<PaTable, Refusal>> for YebkuzanPaFeatures {
+    ghost from_gives = { λ pa result. pa_outcome_c result ≡ pa_outcome pa };
+
+    fn from(pa: Result<PaTable, Refusal>) -> YebkuzanPaFeatures {
+        let (number, table) = numbered(pa);
+        YebkuzanPaFeatures { number, table }
     }
 }
 
-pub fn of_bus_frequency(bus: BusFrequency) -> YebkuzanBusFrequency
-    ensures { bus_outcome_c result ≡ bus_outcome bus }
-{
-    let refusal = bus.refusal;
-    YebkuzanBusFrequency {
-        number: refusal::number(refusal),
-        frequency: bus.frequency,
+impl From<Result<PiTable, Refusal>> for YebkuzanPiFeatures {
+    ghost from_gives = { λ pi result. pi_outcome_c result ≡ pi_outcome pi };
+
+    fn from(pi: Result<PiTable, Refusal>) -> YebkuzanPiFeatures {
+        let (number, table) = numbered(pi);
+        YebkuzanPiFeatures { number, table }
     }
 }
 
-pub fn of_unit(read: UnitRead) -> YebkuzanUnit
-    ensures { unit_outcome_c result ≡ unit_outcome read }
-{
-    let refusal = read.refusal;
-    YebkuzanUnit {
-        number: refusal::number(refusal),
-        unit: read.number,
+impl From<Result<u64, Refusal>> for YebkuzanBusFrequency {
+    ghost from_gives = { λ bus result. bus_outcome_c result ≡ bus_outcome bus };
+
+    fn from(bus: Result<u64, Refusal>) -> YebkuzanBusFrequency {
+        let (number, frequency) = numbered(bus);
+        YebkuzanBusFrequency { number, frequency }
     }
 }
 
-pub fn of_string_place(found: Position) -> YebkuzanStringPlace
-    ensures { string_place_outcome_c result ≡ place_outcome found }
-{
-    match found {
-        Position::At(place) => YebkuzanStringPlace {
-            number: refusal::number(Refusal::None),
-            place,
-        },
-        Position::Nowhere => YebkuzanStringPlace {
-            number: refusal::number(Refusal::NotFound),
-            place: 0,
-        },
+impl From<Result<u32, Refusal>> for YebkuzanUnit {
+    ghost from_gives = { λ read result. unit_outcome_c result ≡ unit_outcome read };
+
+    fn from(read: Result<u32, Refusal>) -> YebkuzanUnit {
+        let (number, unit) = numbered(read);
+        YebkuzanUnit { number, unit }
     }
 }
 
-pub fn of_permitted(allowed: PermittedFeatures) -> YebkuzanPermitted
-    ensures { permitted_outcome_c result ≡ permitted_outcome allowed }
-{
-    let refusal = allowed.refusal;
-    let set = allowed.set;
-    YebkuzanPermitted {
-        number: refusal::number(refusal),
-        set,
+impl From<Option<usize>> for YebkuzanStringPlace {
+    ghost from_gives = { λ found result. string_place_outcome_c result ≡ place_outcome found };
+
+    fn from(found: Option<usize>) -> YebkuzanStringPlace {
+        let (number, place) = numbered(found.ok_or(Refusal::NotFound));
+        YebkuzanStringPlace { number, place }
     }
 }
 
-pub fn of_enabled(e: Enabled) -> YebkuzanEnabled
-    ensures { enabled_outcome_c result ≡ enabled_outcome e }
-{
-    let refusal = e.refusal;
-    let set = e.set;
-    YebkuzanEnabled {
-        number: refusal::number(refusal),
-        count: e.count,
-        set,
+impl From<Result<Set, Refusal>> for YebkuzanPermitted {
+    ghost from_gives = { λ permitted result. permitted_outcome_c result ≡ permitted_outcome permitted };
+
+    fn from(permitted: Result<Set, Refusal>) -> YebkuzanPermitted {
+        let (number, set) = numbered(permitted);
+        YebkuzanPermitted { number, set }
     }
 }
 
-pub fn of_reach(reached: ReachTable) -> YebkuzanReach
-    ensures { reach_outcome_c result ≡ reach_outcome reached }
-{
-    let refusal = reached.refusal;
-    let rows = reached.rows;
-    YebkuzanReach {
-        number: refusal::number(refusal),
-        rows,
+impl From<Result<Enabled, Refusal>> for YebkuzanEnabled {
+    ghost from_gives = { λ enabled result. enabled_outcome_c result ≡ enabled_outcome enabled };
+
+    fn from(enabled: Result<Enabled, Refusal>) -> YebkuzanEnabled {
+        let (number, members) = numbered(enabled);
+        YebkuzanEnabled {
+            number,
+            count: members.count,
+            set: members.set,
+        }
     }
 }
 
-pub fn of_chain(told: ChainTold) -> YebkuzanWritten
-    ensures { written_outcome_c result ≡ chain_outcome told }
-{
-    let refusal = told.refusal;
-    YebkuzanWritten {
-        number: refusal::number(refusal),
-        length: told.length,
+impl From<Result<Rows, Refusal>> for YebkuzanReach {
+    ghost from_gives = { λ reached result. reach_outcome_c result ≡ reach_outcome reached };
+
+    fn from(reached: Result<Rows, Refusal>) -> YebkuzanReach {
+        let (number, rows) = numbered(reached);
+        YebkuzanReach { number, rows }
     }
 }
 
-pub fn of_words(given: FeatureWords) -> YebkuzanWords
-    ensures { words_outcome_c result ≡ words_outcome given }
-{
-    let refusal = given.refusal;
-    YebkuzanWords {
-        number: refusal::number(refusal),
-        hwcap_first: given.hwcap_first,
-        hwcap_second: given.hwcap_second,
-        hfscr: given.hfscr,
-        fscr: given.fscr,
+impl From<Result<u32, Refusal>> for YebkuzanWritten {
+    ghost from_gives = { λ written result. written_outcome_c result ≡ chain_outcome written };
+
+    fn from(written: Result<u32, Refusal>) -> YebkuzanWritten {
+        let (number, length) = numbered(written);
+        YebkuzanWritten { number, length }
+    }
+}
+
+impl From<Result<FeatureWords, Refusal>> for YebkuzanWords {
+    ghost from_gives = { λ given result. words_outcome_c result ≡ words_outcome given };
+
+    fn from(given: Result<FeatureWords, Refusal>) -> YebkuzanWords {
+        let (number, words) = numbered(given);
+        YebkuzanWords {
+            number,
+            hwcap_first: words.hwcap_first,
+            hwcap_second: words.hwcap_second,
+            hfscr: words.hfscr,
+            fscr: words.fscr,
+        }
     }
 }
