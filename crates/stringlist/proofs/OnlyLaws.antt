@@ -8,27 +8,25 @@ use borrow.Author.Tests.{eq-eqb}
 use lib.ListN.{length, take, drop, drop_of_length-le, length-append}
 use Rattle.strings.specs.Strings.{same_bytes}
 use Rattle.strings.proofs.Strings.{text-zero}
-use Rattle.positions.specs.declared.Position.{Position}
-use Rattle.positions.specs.declared.Position.TheVariants.{Nowhere, At}
+use Rattle.std.proofs.Common.{Option, Some, None, Result, Ok, Err}
 use Rattle.positions.specs.Below.{first_that}
-use Rattle.stringlist.specs.declared.Stop.{Stop}
-use Rattle.stringlist.specs.declared.Stop.TheVariants.{At as StopsAt, End}
+use Rattle.stringlist.specs.declared.StringAt.{StringAt}
 use Rattle.stringlist.specs.StringList.{strings_bytes, split_at_zeros, is_whole, strings_in, is_string_at, string_place, is_only, is_only_string}
-use Rattle.stringlist.specs.Parts.{stop_in}
+use Rattle.stringlist.specs.Parts.{at_string, stop_in}
 use Rattle.stringlist.proofs.StringLaws.{split-few, whole-bytes}
 use Rattle.stringlist.proofs.StopLaws.{Found, found_within, found-bytes, found-split, first_found, place_in, later, stop-place}
 
 module _ (list text : List ℕ) where
   -- the place: nowhere in a list without its last zero byte, else where a scan stops that seeks no place
-  pub place-cut : is_whole list ≡ false → Nowhere ≡ string_place list text
+  pub place-cut : is_whole list ≡ false → None ≡ string_place list text
   unfolding string_place strings_in first_that
   place-cut h = rw h
 
-  from-0 : (r : Position) → later 0 r ≡ r
-  from-0 (At i) = ap At (omega arith)
-  from-0 Nowhere = refl
+  from-0 : (r : Option ℕ) → later 0 r ≡ r
+  from-0 (Some i) = ap Some (omega arith)
+  from-0 None = refl
 
-  pub place-stop : is_whole list ≡ true → {s : Stop} → s ≡ stop_in text (length list) 0 0 (split_at_zeros list) → place_in s ≡ string_place list text
+  pub place-stop : is_whole list ≡ true → {s : Result StringAt ℕ} → s ≡ stop_in text (length list) 0 0 (split_at_zeros list) → place_in s ≡ string_place list text
   unfolding string_place strings_in
   place-stop h e =
       ap place_in e
@@ -37,20 +35,20 @@ module _ (list text : List ℕ) where
       ∙ rw h
 
   -- the only string: the scan stops at the first one
-  module _ {place from to : ℕ} (s : StopsAt place from to ≡ stop_in text 0 0 0 (split_at_zeros list)) where
-    first : (from ≡ 0) × Found list 0 to
+  module _ {x : StringAt} (s : Ok x ≡ stop_in text 0 0 0 (split_at_zeros list)) where
+    first : (x.from ≡ 0) × Found list 0 x.to
     first = first_found list text s
 
-    pub first-within : (from ≤ to) × (to < length list)
+    pub first-within : (x.from ≤ x.to) × (x.to < length list)
     first-within = omega (arith, first.0, found_within list 0 first.1)
 
     abbrev rest : List (List ℕ)
-    rest = split_at_zeros (drop (to + 1) list)
+    rest = split_at_zeros (drop (x.to + 1) list)
 
     split : split_at_zeros list ≡ first.1.characters ∷ rest
     split = found-split list 0 first.1
 
-    pub only-more : to + 1 < length list → false ≡ is_only_string list text
+    pub only-more : x.to + 1 < length list → false ≡ is_only_string list text
     unfolding is_only_string strings_in strings_bytes
     only-more m = go (is_whole list) refl rest split
       where
@@ -62,27 +60,27 @@ module _ (list text : List ℕ) where
             absurd (omega (arith, ap length z, length-append first.1.characters (0 ∷ []), first.1.end))
         go true h (t ∷ ts) e = rw e
 
-    last-zero : length list ≤ to + 1 → is_whole list ≡ true
+    last-zero : length list ≤ x.to + 1 → is_whole list ≡ true
     unfolding is_whole
     last-zero m =
         let n : length list - 1 ≡ 0 + length first.1.characters = omega (arith, first.1.end, found_within list 0 first.1) in
         rw n (eq-eqb _ 0 (text-zero list 0 (length list) first.1.characters first.1.text))
 
-    pub only-last : length list ≤ to + 1 → same_bytes (take (to - from) (drop from list)) text ≡ is_only_string list text
+    pub only-last : length list ≤ x.to + 1 → same_bytes (take (x.to - x.from) (drop x.from list)) text ≡ is_only_string list text
     unfolding is_only_string strings_in split_at_zeros
     only-last m =
         let e : split_at_zeros list ≡ first.1.characters ∷ [] = split ∙ ap (λ (l : List ℕ). first.1.characters ∷ split_at_zeros l) (drop_of_length-le list m) in
         rw (first.0, found-bytes list 0 first.1, last-zero m, e)
 
-  pub only_none : {count : ℕ} → End count ≡ stop_in text 0 0 0 (split_at_zeros list) → false ≡ is_only_string list text
+  pub only_none : {count : ℕ} → Err count ≡ stop_in text 0 0 0 (split_at_zeros list) → false ≡ is_only_string list text
   unfolding is_only_string strings_in stop_in
   only_none {count} e = go (split_at_zeros list) e (is_whole list)
     where
-      go : (ts : List (List ℕ)) → End count ≡ stop_in text 0 0 0 ts → (w : Bool) → false ≡ is_only text (cond w ts [])
+      go : (ts : List (List ℕ)) → Err count ≡ stop_in text 0 0 0 ts → (w : Bool) → false ≡ is_only text (cond w ts [])
       go [] k true = refl
       go [] k false = refl
       go (t ∷ ts) k w = absurd (stops (same_bytes t text) k)
         where
-          stops : (q : Bool) → End count ≡ cond (q || true) (StopsAt 0 0 (0 + length t)) (stop_in text 0 (0 + 1) (0 + length t + 1) ts) → ⊥
+          stops : (q : Bool) → Err count ≡ cond (q || true) (at_string 0 0 (0 + length t)) (stop_in text 0 (0 + 1) (0 + length t + 1) ts) → ⊥
           stops true j = let z : ◌≡◌ {A = ℕ} 0 1 = cc in omega arith
           stops false j = let z : ◌≡◌ {A = ℕ} 0 1 = cc in omega arith

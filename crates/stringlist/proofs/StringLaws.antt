@@ -125,11 +125,6 @@ split-unended (b ∷ bs) e = go (eqb b 0) (text_of bs) (split-unended bs) e
     go false unended f p = rw (f refl)
 
 -- the test of the last byte
-pub whole-none : (list : List ℕ) → length list ≡ 0 → is_whole list ≡ true
-unfolding is_whole
-whole-none [] h = refl
-whole-none (b ∷ bs) h = absurd (omega arith)
-
 pub whole-last : (list : List ℕ) → eqb (get_or list (length list - 1) 0) 0 ≡ is_whole list
 unfolding is_whole
 whole-last list = refl

@@ -1,9 +1,7 @@
 -- Lists of strings (document 02, A3).
-use Rattle.std.specs.Prelude.{ℕ, ◌-◌, ◌≡◌, Bool, false, cond, List, [], ◌∷◌, ◌++◌, eqb, length, get_or}
+use Rattle.std.specs.Prelude.{ℕ, ◌-◌, ◌≡◌, Bool, false, cond, Option, Some, None, List, [], ◌∷◌, ◌++◌, eqb, length, get_or}
 use Rattle.cells.specs.Bytes.{Each}
 use Rattle.strings.specs.Strings.{same_bytes}
-use Rattle.positions.specs.declared.Position.{Position}
-use Rattle.positions.specs.declared.Position.TheVariants.{Nowhere, At}
 use Rattle.positions.specs.Below.{first_that}
 
 -- a byte that does not end a string
@@ -21,10 +19,10 @@ pub record AreStrings (list : List ℕ) (strings : List (List ℕ)) : Type 0 whe
   pub plain : Each (Each NotZero) strings
 
 -- a string stands first at a place, "counted from 0"; or "it doesn't stand there"
-pub data StandsFirst (list text : List ℕ) : Position → Type 0 where
+pub data StandsFirst (list text : List ℕ) : Option ℕ → Type 0 where
   stands_at : (before after : List (List ℕ)) → AreStrings list (before ++ text ∷ after) → Each (λ (t : List ℕ). t ≡ text → ⊥) before
-      → StandsFirst list text (At (length before))
-  stands_nowhere : ((before after : List (List ℕ)) → AreStrings list (before ++ text ∷ after) → ⊥) → StandsFirst list text Nowhere
+      → StandsFirst list text (Some (length before))
+  stands_nowhere : ((before after : List (List ℕ)) → AreStrings list (before ++ text ∷ after) → ⊥) → StandsFirst list text None
 
 -- the same as tests. The strings before the zero bytes of a run; bytes behind the last zero byte are none
 abbrev pub on_first : ℕ → List (List ℕ) → List (List ℕ)
@@ -47,7 +45,7 @@ strings_in list = cond (is_whole list) (split_at_zeros list) []
 abbrev pub is_string_at : List (List ℕ) → List ℕ → ℕ → Bool
 is_string_at strings text i = same_bytes (get_or strings i []) text
 
-unfoldable pub string_place : List ℕ → List ℕ → Position
+unfoldable pub string_place : List ℕ → List ℕ → Option ℕ
 string_place list text = first_that (length (strings_in list)) (is_string_at (strings_in list) text)
 
 -- "as its only string"

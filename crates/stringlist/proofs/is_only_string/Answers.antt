@@ -1,28 +1,26 @@
 -- `stringlist::is_only_string` meets its contract. Assumes nothing.
-use mathlib.Core.Path.{sym, ◌∙◌}
+use mathlib.Core.Path.{◌∙◌}
 use native.Mathlib.Omega.{arith}
+use borrow.Author.Tests.{ne_eqb}
+use Rattle.strings.proofs.Strings.{same-pointwise}
 use Rattle.stringlist.proofs.OnlyLaws.{first-within, only-more, only-last, only_none}
 use Rattle.stringlist.proofs.is_only_string.Goals as goal
 
-pub overflow_add-to : goal.overflow_add-to
-overflow_add-to c = omega (arith, first-within _ _ (sym c.in-At.is ∙ c.scan.ensures))
+pub overflow_add-first : goal.overflow_add-first
+overflow_add-first c = omega (arith, first-within _ _ c.in-Ok.ensures)
 
-pub returns-then-to-list : goal.returns-then-to-list
-returns-then-to-list c = only-more _ _ (sym c.in-At.is ∙ c.scan.ensures) (omega arith)
+pub slice_bounds-eq-count : goal.slice_bounds-eq-count
+slice_bounds-eq-count c = omega (arith, first-within _ _ c.in-Ok.ensures)
 
-pub slice_bounds-same_bytes-count : goal.slice_bounds-same_bytes-count
-slice_bounds-same_bytes-count c = omega (arith, first-within _ _ (sym c.in-At.is ∙ c.scan.ensures))
+pub slice_bounds-eq-start : goal.slice_bounds-eq-start
+slice_bounds-eq-start c = omega (arith, first-within _ _ c.in-Ok.ensures)
 
-pub slice_bounds-same_bytes-start : goal.slice_bounds-same_bytes-start
-slice_bounds-same_bytes-start c = omega (arith, first-within _ _ (sym c.in-At.is ∙ c.scan.ensures))
+pub returns-then-first-list : goal.returns-then-first-list
+returns-then-first-list c = c.eq.ensures ∙ same-pointwise _ _ ∙ only-last _ _ c.in-Ok.ensures (omega arith)
 
-pub slice_bounds-same_bytes-end : goal.slice_bounds-same_bytes-end
-slice_bounds-same_bytes-end c = omega (arith, first-within _ _ (sym c.in-At.is ∙ c.scan.ensures))
+pub returns-else-first-list : goal.returns-else-first-list
+returns-else-first-list c =
+    ne_eqb _ _ c.if-first-list.false ∙ only-more _ _ c.in-Ok.ensures (omega (arith, first-within _ _ c.in-Ok.ensures, c.if-first-list.false))
 
-pub returns-else-to-list : goal.returns-else-to-list
-returns-else-to-list c =
-    let w = c in
-    c.same_bytes.ensures ∙ only-last _ _ (sym w.in-At.is ∙ w.scan.ensures) (omega arith)
-
-pub returns-in-End : goal.returns-in-End
-returns-in-End c = only_none _ _ (sym c.in-End.is ∙ c.scan.ensures)
+pub returns-in-Err : goal.returns-in-Err
+returns-in-Err c = only_none _ _ c.in-Err.ensures

@@ -1,10 +1,14 @@
 -- `stringlist::is_whole` meets its contract. Assumes nothing.
-use mathlib.Core.Path.{sym}
-use Rattle.stringlist.proofs.StringLaws.{whole-none, whole-last}
+use mathlib.Core.Path.{ap, ◌∙◌}
+use Prim.Native.Nat.{◌-◌}
+use lib.Dec.{eqb}
+use lib.ListN.{length}
+use Rattle.std.proofs.lemmas.Option.{unwrap_or-slice_get}
+use Rattle.std.specs.Option.{unwrap_or}
+use Rattle.stringlist.proofs.StringLaws.{whole-last}
 use Rattle.stringlist.proofs.is_whole.Goals as goal
 
-pub returns-then-n-eq0 : goal.returns-then-n-eq0
-returns-then-n-eq0 c = sym (whole-none _ c.if-n-eq0.true)
-
 pub returns : goal.returns
-returns c = whole-last _
+returns c =
+    let read = c.copied.ensures ∙ c.last.ensures.value in
+    ap (λ b. eqb b 0) (c.unwrap_or.ensures ∙ ap (λ o. unwrap_or o 0) read ∙ unwrap_or-slice_get c.args.list.now (length c.args.list.now - 1) 0) ∙ whole-last c.args.list.now

@@ -1,51 +1,44 @@
 -- `stringlist::scan` meets its contract. The loop's invariant: the scan from here on stops where the whole one does. Assumes nothing.
-use mathlib.Core.Path.{refl, sym, ◌∙◌}
+use mathlib.Core.Path.{sym, ◌∙◌}
 use native.Mathlib.Omega.{arith}
-use Rattle.stringlist.proofs.StopLaws.{found, found_within, stop-past, stop-none, stop-same, stop-sought, stop-later}
+use Rattle.stringlist.proofs.StopLaws.{found, found_within, stop-none, stop-same, stop-sought, stop-later}
+use Rattle.strings.proofs.Strings.{same-pointwise}
 use Rattle.stringlist.proofs.scan.Goals as goal
+use Rattle.stringlist.proofs.scan.Goals.{then-eq-via-then-eq, then-eq-via-else-eq+then-place-sought}
 
-pub loop-from-init : goal.loop-from-init
-loop-from-init c = (refl, omega arith, refl)
+pub slice_bounds-eq-count : goal.slice_bounds-eq-count
+slice_bounds-eq-count c = omega (arith, found_within _ _ (found _ _ (sym c.in-Some.ensures)))
 
-pub slice_bounds-same_bytes-count : goal.slice_bounds-same_bytes-count
-slice_bounds-same_bytes-count c = omega (arith, found_within _ _ (found _ _ (sym c.text_end.ensures ∙ c.in-At.is)))
+pub slice_bounds-eq-start : goal.slice_bounds-eq-start
+slice_bounds-eq-start c = omega (arith, found_within _ _ (found _ _ (sym c.in-Some.ensures)))
 
-pub slice_bounds-same_bytes-start : goal.slice_bounds-same_bytes-start
-slice_bounds-same_bytes-start c = omega (arith, found_within _ _ (found _ _ (sym c.text_end.ensures ∙ c.in-At.is)))
+pub slice_bounds-eq-end : goal.slice_bounds-eq-end
+slice_bounds-eq-end c = omega (arith, found_within _ _ (found _ _ (sym c.in-Some.ensures)))
 
-pub slice_bounds-same_bytes-end : goal.slice_bounds-same_bytes-end
-slice_bounds-same_bytes-end c = omega (arith, found_within _ _ (found _ _ (sym c.text_end.ensures ∙ c.in-At.is)))
-
-pub returns-then-same_bytes : goal.returns-then-same_bytes
-returns-then-same_bytes c =
-    stop-same _ _ _ _ _ (found _ _ (sym c.text_end.ensures ∙ c.in-At.is)) (sym c.same_bytes.ensures ∙ c.if-same_bytes.true)
-    ∙ c.loop-from.invariant.2
-
-pub returns-then-place-sought : goal.returns-then-place-sought
-returns-then-place-sought c =
-    stop-sought _ _ _ _ _ (found _ _ (sym c.text_end.ensures ∙ c.in-At.is)) (sym c.same_bytes.ensures ∙ c.if-same_bytes.false) c.if-place-sought.true
-    ∙ c.loop-from.invariant.2
+pub returns-then-eq : goal.returns-then-eq
+returns-then-eq c =
+    let f = found c.args.list.now c.loop-to.from (sym c.in-Some.ensures) in
+    elim c.then-eq.branch [
+      | then-eq-via-then-eq w ↦ stop-same _ _ _ _ _ f (sym (same-pointwise _ _) ∙ sym w.if-eq.ensures) ∙ c.loop-to.invariant.1
+      | then-eq-via-else-eq+then-place-sought w ↦
+          stop-sought _ _ _ _ _ f (sym (same-pointwise _ _) ∙ sym w.if-eq.ensures) w.if-place-sought.true ∙ c.loop-to.invariant.1
+    ]
 
 pub overflow_add-from : goal.overflow_add-from
-overflow_add-from c = omega (arith, found_within _ _ (found _ _ (sym c.text_end.ensures ∙ c.in-At.is)))
+overflow_add-from c = omega (arith, found_within _ _ (found _ _ (sym c.in-Some.ensures)))
 
 pub overflow_add-place : goal.overflow_add-place
-overflow_add-place c = omega (arith, found_within _ _ (found _ _ (sym c.text_end.ensures ∙ c.in-At.is)), c.loop-from.invariant.1)
+overflow_add-place c = omega (arith, found_within _ _ (found _ _ (sym c.in-Some.ensures)), c.loop-to.invariant.0)
 
-pub loop-from-smaller : goal.loop-from-smaller
-loop-from-smaller c = omega (arith, found_within _ _ (found _ _ (sym c.text_end.ensures ∙ c.in-At.is)))
+pub loop-to-smaller : goal.loop-to-smaller
+loop-to-smaller c = omega (arith, found_within _ _ (found _ _ (sym c.in-Some.ensures)))
 
-pub loop-from-preserved : goal.loop-from-preserved
-loop-from-preserved c =
-    let l = c in
-    let g = found _ _ (sym c.text_end.ensures ∙ c.in-At.is) in (
-      l.loop-from.invariant.0,
-      omega (arith, found_within _ _ g, l.loop-from.invariant.1),
-      stop-later _ _ _ _ _ g (sym c.same_bytes.ensures ∙ c.if-same_bytes.false) c.if-place-sought.false ∙ l.loop-from.invariant.2,
+pub loop-to-preserved : goal.loop-to-preserved
+loop-to-preserved c =
+    let f = found c.args.list.now c.loop-to.from (sym c.in-Some.ensures) in (
+      omega (arith, found_within _ _ f, c.loop-to.invariant.0),
+      stop-later _ _ _ _ _ f (sym (same-pointwise _ _) ∙ sym c.if-eq.ensures) c.if-place-sought.false ∙ c.loop-to.invariant.1,
     )
 
-pub returns-in-Nowhere : goal.returns-in-Nowhere
-returns-in-Nowhere c = stop-none _ _ _ _ _ (sym c.text_end.ensures ∙ c.in-Nowhere.is) ∙ c.loop-from.invariant.2
-
 pub returns : goal.returns
-returns c = stop-past _ _ _ _ _ (omega arith) ∙ c.loop-from.invariant.2
+returns c = stop-none _ _ _ _ _ (sym c.in_default.ensures) ∙ c.loop-to.invariant.1
