@@ -7,7 +7,7 @@ use mathlib.Core.List.{List, [], ◌∷◌, ◌++◌}
 use mathlib.Core.Logic.{◌↔◌}
 use Rattle.cells.specs.Bytes.{Each}
 use Rattle.characters.specs.Characters.{bytes}
-use Rattle.positions.specs.declared.Position.{Position}
+use Rattle.std.proofs.Common.{Option}
 use Rattle.positions.specs.Below.{is_somewhere}
 use Rattle.stringlist.specs.StringList.{NotZero, StandsFirst, stands_at, stands_nowhere, is_only_string}
 use Rattle.stringlist.proofs.Stands.{place-stands, only-exactly}
@@ -47,10 +47,10 @@ module _ (value : List ℕ) where
   unfolding is_container_compatible
   compatible-exactly = (λ h. there (place-stands value long) h, λ c. back c (place-stands value long))
     where
-      there : {p : Position} → StandsFirst value long p → is_somewhere p ≡ true → ContainerCompatible value
+      there : {p : Option ℕ} → StandsFirst value long p → is_somewhere p ≡ true → ContainerCompatible value
       there (stands_at before after a n) h = record { before = before; after = after; strings = a }
       there (stands_nowhere n) h = absurd (false≢true h)
 
-      back : ContainerCompatible value → {p : Position} → StandsFirst value long p → is_somewhere p ≡ true
+      back : ContainerCompatible value → {p : Option ℕ} → StandsFirst value long p → is_somewhere p ≡ true
       back c (stands_at before after a n) = refl
       back c (stands_nowhere n) = absurd (n c.before c.after c.strings)

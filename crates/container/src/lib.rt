@@ -5,24 +5,17 @@
 ghost use Rattle.std.specs.Prelude.{◌≡◌};
 ghost use Rattle.container.specs.Container.{is_container_type, is_container_compatible};
 
-use positions::Position;
-
 // Whether a `device_type` is a container's.
 pub fn is_container_type(value: &[u8]) -> bool
     ensures { result ≡ is_container_type value.now }
 {
-    if stringlist::is_only_string(value, b"cpu-features") {
-        return true;
-    }
-    stringlist::is_only_string(value, b"ibm,powerpc-cpu-features")
+    stringlist::is_only_string(value, b"cpu-features")
+        || stringlist::is_only_string(value, b"ibm,powerpc-cpu-features")
 }
 
 // Whether a `compatible` is a container's.
 pub fn is_container_compatible(value: &[u8]) -> bool
     ensures { result ≡ is_container_compatible value.now }
 {
-    match stringlist::string_place(value, b"ibm,powerpc-cpu-features") {
-        Position::At(_) => true,
-        Position::Nowhere => false,
-    }
+    stringlist::string_place(value, b"ibm,powerpc-cpu-features").is_some()
 }
