@@ -136,7 +136,8 @@ def capitals(name):
 
 def constants(sources):
     found = {f"YEBKUZAN_{name}": sources.constant(crate, name) for crate, name in LIMITS}
-    for number, variant in enumerate(sources.enum("refusal", "Refusal")):
+    found["YEBKUZAN_REFUSAL_NONE"] = 0
+    for number, variant in enumerate(sources.enum("refusal", "Refusal"), start=1):
         found[f"YEBKUZAN_REFUSAL_{capitals(variant)}"] = number
     for bit, variant in enumerate(sources.enum("record", "Property")):
         found[f"YEBKUZAN_GIVEN_{capitals(variant)}"] = 1 << bit

@@ -1,7 +1,7 @@
 // Big-endian cells in byte slices. Every public function takes any slice and any place.
 #![tactic(auto)]
 
-ghost use Rattle.std.specs.Prelude.{◌≡◌, min};
+ghost use Rattle.std.specs.Prelude.{◌≡◌};
 ghost use Rattle.cells.specs.Cells.{byte_at, cell_at, word_at};
 
 // The byte at a place; zero past the end.
@@ -34,10 +34,4 @@ pub fn word_at(s: &[u8], at: usize) -> u64
     let high = u64::from(cell_at(rest, 0));
     let low = u64::from(cell_at(rest, 4));
     high * 0x1_0000_0000 + low
-}
-
-pub fn least(a: usize, b: usize) -> usize
-    ensures { result ≡ min a b }
-{
-    a.min(b)
 }

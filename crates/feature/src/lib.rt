@@ -5,8 +5,9 @@
 ghost use Rattle.std.specs.Prelude.{◌≡◌, ◌*◌, ◌≤◌, min};
 ghost use Rattle.positions.specs.Below.{one_if, first_that};
 ghost use Rattle.record.specs.Record.{most_features, no_feature};
-ghost use Rattle.record.specs.Cells.{given_in};
-ghost use Rattle.feature.specs.Feature.{feature_outcome, feature_read};
+ghost use Rattle.refusal.specs.Refusal.{number_in as refusal_number};
+ghost use Rattle.record.specs.Cells.{given_in, number_in, given_word};
+ghost use Rattle.feature.specs.Feature.{cell_from, cells_from, refusal_of, feature_from, feature_outcome, feature_read};
 ghost use Rattle.feature.specs.Phandles.{is_at};
 
 use record::{Feature, MOST_FEATURES};
@@ -41,48 +42,83 @@ pub struct FeatureCells {
     pub dependencies: CellRead,
 }
 
-// A bit of the word `given`: set where the cell is given.
-fn given(cell: Option<u32>, bit: u32) -> u32
-    ensures { (result ≡ one_if (given_in cell) * bit) × (result ≤ bit) }
+// The cell of a property; none where it is refused.
+fn cell_from(c: CellRead) -> Option<u32>
+    ensures { result ≡ cell_from c }
 {
-    if cell.is_some() { bit } else { 0 }
+    c.unwrap_or(None)
 }
 
-// The feature at an offset that its cells give, or the first refusal of its properties, in document 01's order.
-pub fn feature_of(at: u32, c: FeatureCells) -> Result<Feature, Refusal>
+// A bit of the word `given`: set where the cell is given.
+fn given_bit(c: CellRead, bit: u32) -> u32
+    ensures { (result ≡ one_if (given_in (cell_from c)) * bit) × (result ≤ bit) }
+{
+    if cell_from(c).is_some() { bit } else { 0 }
+}
+
+// The number of a cell, zero where it is not given.
+fn number(c: CellRead) -> u32
+    ensures { result ≡ number_in (cell_from c) }
+{
+    cell_from(c).unwrap_or(0)
+}
+
+// The word `given`, a bit for each property in their order, the first the lowest.
+fn given_word(c: FeatureCells) -> u32
+    ensures { result ≡ given_word (cells_from c) }
+{
+    given_bit(c.isa, 1)
+        + given_bit(c.support.usable_privilege, 2)
+        + given_bit(c.support.hv_support, 4)
+        + given_bit(c.support.os_support, 8)
+        + given_bit(c.bits.hfscr_bit_nr, 16)
+        + given_bit(c.bits.fscr_bit_nr, 32)
+        + given_bit(c.bits.hwcap_bit_nr, 64)
+        + given_bit(c.phandle, 128)
+        + given_bit(c.dependencies, 256)
+}
+
+// The first refusal of a feature's properties, in their order.
+pub fn refusal_of(c: FeatureCells) -> Result<(), Refusal>
+    ensures { refusal_number result ≡ refusal_of c }
+{
+    c.isa?;
+    c.support.usable_privilege?;
+    c.support.hv_support?;
+    c.support.os_support?;
+    c.bits.hfscr_bit_nr?;
+    c.bits.fscr_bit_nr?;
+    c.bits.hwcap_bit_nr?;
+    c.phandle?;
+    c.dependencies?;
+    Ok(())
+}
+
+// The feature at an offset that its cells give.
+pub fn feature_of(at: u32, c: FeatureCells) -> Feature
+    ensures { result ≡ feature_from at c }
+{
+    Feature {
+        offset: at,
+        given: given_word(c),
+        isa: number(c.isa),
+        usable_privilege: number(c.support.usable_privilege),
+        hv_support: number(c.support.hv_support),
+        os_support: number(c.support.os_support),
+        hfscr_bit_nr: number(c.bits.hfscr_bit_nr),
+        fscr_bit_nr: number(c.bits.fscr_bit_nr),
+        hwcap_bit_nr: number(c.bits.hwcap_bit_nr),
+        phandle: number(c.phandle),
+        dependencies: number(c.dependencies),
+    }
+}
+
+// The feature at an offset that its cells give, or the first refusal among them.
+pub fn try_feature_of(at: u32, c: FeatureCells) -> Result<Feature, Refusal>
     ensures { feature_outcome result ≡ feature_read at c }
 {
-    let isa = c.isa?;
-    let usable_privilege = c.support.usable_privilege?;
-    let hv_support = c.support.hv_support?;
-    let os_support = c.support.os_support?;
-    let hfscr_bit_nr = c.bits.hfscr_bit_nr?;
-    let fscr_bit_nr = c.bits.fscr_bit_nr?;
-    let hwcap_bit_nr = c.bits.hwcap_bit_nr?;
-    let phandle = c.phandle?;
-    let dependencies = c.dependencies?;
-    Ok(Feature {
-        offset: at,
-        // A bit for each property in document 01's order, the first the lowest.
-        given: given(isa, 1)
-            + given(usable_privilege, 2)
-            + given(hv_support, 4)
-            + given(os_support, 8)
-            + given(hfscr_bit_nr, 16)
-            + given(fscr_bit_nr, 32)
-            + given(hwcap_bit_nr, 64)
-            + given(phandle, 128)
-            + given(dependencies, 256),
-        isa: isa.unwrap_or(0),
-        usable_privilege: usable_privilege.unwrap_or(0),
-        hv_support: hv_support.unwrap_or(0),
-        os_support: os_support.unwrap_or(0),
-        hfscr_bit_nr: hfscr_bit_nr.unwrap_or(0),
-        fscr_bit_nr: fscr_bit_nr.unwrap_or(0),
-        hwcap_bit_nr: hwcap_bit_nr.unwrap_or(0),
-        phandle: phandle.unwrap_or(0),
-        dependencies: dependencies.unwrap_or(0),
-    })
+    refusal_of(c)?;
+    Ok(feature_of(at, c))
 }
 
 // What stands where there is no feature.
