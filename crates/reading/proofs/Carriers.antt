@@ -7,15 +7,13 @@ use native.Mathlib.Omega.{arith}
 use lib.ListN.{length, get_or, take, drop}
 use lib.Seq.{split_at, get_or-take, length-take-le}
 use borrow.Author.Tests.{eqb-true, eq-eqb}
+use Rattle.std.specs.Prelude.{Option, None, Some}
 use Rattle.strings.specs.Strings.{unended}
 use Rattle.names.specs.Names.{either}
 use Rattle.positions.specs.Below.{is_somewhere}
-use Rattle.positions.specs.declared.Position.{Position}
-use Rattle.positions.specs.declared.Position.TheVariants.{Nowhere, At}
 use Rattle.positions.proofs.BelowLaws.{no_way}
 use Rattle.positions.proofs.FirstLaws.{IsFirst, first-that}
 use Rattle.record.specs.declared.Property.TheVariants.{Phandle}
-use Rattle.record.specs.declared.Cell.TheVariants.{Given}
 use Rattle.nodes.specs.Nodes.{Node, node, node_at}
 use Rattle.nodes.specs.Values.{Value, missing, value, value_of, number}
 use Rattle.reading.specs.Features.{some, is_carried, carries, is_repeated, cell_of, cell_in}
@@ -38,24 +36,24 @@ pub node-before : (ns : List Node) (i k : ℕ) → k < i → node_at (take i ns)
 node-before ns i k h = sym (node-at (take i ns) k) ∙ get_or-take i ns k nothing h ∙ node-at ns k
 
 -- a phandle is carried where it is the cell that is read
-carried-cell : (p : ℕ) (v : Value) → is_carried p v ≡ true → cell_of v ≡ Given p
+carried-cell : (p : ℕ) (v : Value) → is_carried p v ≡ true → cell_of v ≡ Some p
 carried-cell p missing h = absurd (false≢true h)
-carried-cell p (value bs) h = ap Given (eqb-true (number (value bs)) p h)
+carried-cell p (value bs) h = ap Some (eqb-true (number (value bs)) p h)
 
-cell-carried : (p : ℕ) (v : Value) → cell_of v ≡ Given p → is_carried p v ≡ true
+cell-carried : (p : ℕ) (v : Value) → cell_of v ≡ Some p → is_carried p v ≡ true
 cell-carried p missing h = let z : ◌≡◌ {A = ℕ} 0 1 = cc in absurd (omega arith)
 cell-carried p (value bs) h = let e : number (value bs) ≡ p = cc in eq-eqb (number (value bs)) p e
 
-pub carries-phandle : (p : ℕ) (n : Node) → carries p n ≡ true → cell_in n Phandle ≡ Given p
+pub carries-phandle : (p : ℕ) (n : Node) → carries p n ≡ true → cell_in n Phandle ≡ Some p
 unfolding cell_in
 carries-phandle p n h = carried-cell p (value_of n "phandle") h
 
-pub phandle-carries : (p : ℕ) (n : Node) → cell_in n Phandle ≡ Given p → carries p n ≡ true
+pub phandle-carries : (p : ℕ) (n : Node) → cell_in n Phandle ≡ Some p → carries p n ≡ true
 unfolding cell_in
 phandle-carries p n h = cell-carried p (value_of n "phandle") h
 
 -- the carrier among features
-pub carrier-carries : (features : List Node) (p : ℕ) {k : ℕ} → carrier features p ≡ At k → (k < length features) × (carries p (node_at features k) ≡ true)
+pub carrier-carries : (features : List Node) (p : ℕ) {k : ℕ} → carrier features p ≡ Some k → (k < length features) × (carries p (node_at features k) ≡ true)
 carrier-carries features p e =
     let f = subst (IsFirst (length features) (carries_at features p)) e (first-that (length features) (carries_at features p)) in (f.0, f.1)
 
@@ -90,11 +88,11 @@ none-some q (n ∷ ns) f = rw (f 0 (omega arith)) (none-some q ns (λ k l. f (su
 pub some-carrier : (p : ℕ) (ns : List Node) → some (carries p) ns ≡ is_somewhere (carrier ns p)
 some-carrier p ns = go (carrier ns p) (first-that (length ns) (carries_at ns p))
   where
-    go : (x : Position) → IsFirst (length ns) (carries_at ns p) x → some (carries p) ns ≡ is_somewhere x
-    go Nowhere f = none-some (carries p) ns f
-    go (At i) f = some_one (carries p) ns i f.0 f.1
+    go : (x : Option ℕ) → IsFirst (length ns) (carries_at ns p) x → some (carries p) ns ≡ is_somewhere x
+    go None f = none-some (carries p) ns f
+    go (Some i) f = some_one (carries p) ns i f.0 f.1
 
-repeated-none : (p : ℕ) (before : List Node) (v : Value) (k : ℕ) → k < length before → is_repeated before v ≡ false → cell_of v ≡ Given p → carries p (node_at before k) ≡ false
+repeated-none : (p : ℕ) (before : List Node) (v : Value) (k : ℕ) → k < length before → is_repeated before v ≡ false → cell_of v ≡ Some p → carries p (node_at before k) ≡ false
 repeated-none p before missing k l h e = let z : ◌≡◌ {A = ℕ} 0 1 = cc in absurd (omega arith)
 repeated-none p before (value bs) k l h e =
     let z : number (value bs) ≡ p = cc in

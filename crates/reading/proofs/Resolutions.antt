@@ -5,20 +5,19 @@ use mathlib.Core.List.{List, [], ◌∷◌, ◌++◌}
 use Prim.Native.Nat.{ℕ, zero, suc, ◌<◌}
 use native.Mathlib.Omega.{arith}
 use lib.ListN.{length, get_or}
+use Rattle.std.specs.Prelude.{Option, None, Some}
 use Rattle.refusal.specs.Refusal.{Fault, fault}
 use Rattle.refusal.specs.Checks.{Check, check}
 use Rattle.positions.specs.Below.{is_somewhere}
-use Rattle.positions.specs.declared.Position.{Position}
-use Rattle.positions.specs.declared.Position.TheVariants.{Nowhere, At}
 use Rattle.nodes.specs.Nodes.{Node}
 use Rattle.reading.specs.Dependencies.{carrier, cell_checks, Resolution, unknown, found, one_position, followed_by, positions_of}
 use Rattle.reading.specs.Ends.{AllHold, FirstFailing}
 use Rattle.reading.proofs.CheckLaws.{fail-left, fail-right, fail-here}
 
 -- a carrier that is somewhere is at a position
-pub somewhere-at : (x : Position) → is_somewhere x ≡ true → (k : ℕ) × (x ≡ At k)
-somewhere-at Nowhere h = absurd (false≢true h)
-somewhere-at (At k) h = (k, refl)
+pub somewhere-at : (x : Option ℕ) → is_somewhere x ≡ true → (k : ℕ) × (x ≡ Some k)
+somewhere-at None h = absurd (false≢true h)
+somewhere-at (Some k) h = (k, refl)
 
 -- nothing is no list of positions, and a list is itself only
 abbrev is_found : Resolution → Bool
@@ -35,18 +34,18 @@ module _ (features : List Node) where
   -- the positions of the carriers of some phandles
   pub data Carriers : List ℕ → List ℕ → Type 0 where
     no_carriers : Carriers [] []
-    next_carrier : {p k : ℕ} {ps ks : List ℕ} → carrier features p ≡ At k → Carriers ps ks → Carriers (p ∷ ps) (k ∷ ks)
+    next_carrier : {p k : ℕ} {ps ks : List ℕ} → carrier features p ≡ Some k → Carriers ps ks → Carriers (p ∷ ps) (k ∷ ks)
 
   pub carriers-length : {ps ks : List ℕ} → Carriers ps ks → length ks ≡ length ps
   carriers-length no_carriers = refl
   carriers-length (next_carrier e c) = ap suc (carriers-length c)
 
-  pub carriers-at : {ps ks : List ℕ} → Carriers ps ks → (j : ℕ) → j < length ps → carrier features (get_or ps j 0) ≡ At (get_or ks j 0)
+  pub carriers-at : {ps ks : List ℕ} → Carriers ps ks → (j : ℕ) → j < length ps → carrier features (get_or ps j 0) ≡ Some (get_or ks j 0)
   carriers-at no_carriers j h = absurd (omega arith)
   carriers-at (next_carrier e c) zero h = e
   carriers-at (next_carrier e c) (suc j) h = carriers-at c j (omega arith)
 
-  pub carriers-more : {ps ks : List ℕ} (p : ℕ) {k : ℕ} → Carriers ps ks → carrier features p ≡ At k → Carriers (ps ++ p ∷ []) (ks ++ k ∷ [])
+  pub carriers-more : {ps ks : List ℕ} (p : ℕ) {k : ℕ} → Carriers ps ks → carrier features p ≡ Some k → Carriers (ps ++ p ∷ []) (ks ++ k ∷ [])
   carriers-more p no_carriers h = next_carrier h no_carriers
   carriers-more p (next_carrier e c) h = next_carrier e (carriers-more p c h)
 
@@ -73,16 +72,16 @@ module _ (features : List Node) where
   found-carriers [] e = subst (Carriers []) (found-same e) no_carriers
   found-carriers (p ∷ ps) {ks} e = go (carrier features p) refl (positions_of features ps) (λ js c. found-carriers ps c) e
     where
-      go : (x : Position) → carrier features p ≡ x → (r : Resolution) → ((js : List ℕ) → r ≡ found js → Carriers ps js)
+      go : (x : Option ℕ) → carrier features p ≡ x → (r : Resolution) → ((js : List ℕ) → r ≡ found js → Carriers ps js)
           → followed_by (one_position x) r ≡ found ks → Carriers (p ∷ ps) ks
-      go Nowhere a r b c = unknown≢found c
-      go (At k) a unknown b c = unknown≢found c
-      go (At k) a (found js) b c = subst (Carriers (p ∷ ps)) (found-same c) (next_carrier a (b js refl))
+      go None a r b c = unknown≢found c
+      go (Some k) a unknown b c = unknown≢found c
+      go (Some k) a (found js) b c = subst (Carriers (p ∷ ps)) (found-same c) (next_carrier a (b js refl))
 
   -- a phandle that no feature carries
-  pub unknown-behind : {ps ks : List ℕ} (p : ℕ) (qs : List ℕ) → Carriers ps ks → carrier features p ≡ Nowhere → positions_of features (ps ++ p ∷ qs) ≡ unknown
+  pub unknown-behind : {ps ks : List ℕ} (p : ℕ) (qs : List ℕ) → Carriers ps ks → carrier features p ≡ None → positions_of features (ps ++ p ∷ qs) ≡ unknown
   unfolding positions_of
-  unknown-behind p qs no_carriers h = ap (λ (x : Position). followed_by (one_position x) (positions_of features qs)) h
+  unknown-behind p qs no_carriers h = ap (λ (x : Option ℕ). followed_by (one_position x) (positions_of features qs)) h
   unknown-behind p qs (next_carrier e c) h = ap₂ followed_by (ap one_position e) (unknown-behind p qs c h)
 
   pub unknown-fails : (place : ℕ) (ps : List ℕ) → positions_of features ps ≡ unknown → FirstFailing (cell_checks place features ps) 13 place
@@ -93,8 +92,8 @@ module _ (features : List Node) where
       here : List (Check Fault)
       here = check (is_somewhere (carrier features p)) (fault 13 place) ∷ []
 
-      go : (x : Position) → carrier features p ≡ x → (r : Resolution) → (r ≡ unknown → FirstFailing (cell_checks place features ps) 13 place)
+      go : (x : Option ℕ) → carrier features p ≡ x → (r : Resolution) → (r ≡ unknown → FirstFailing (cell_checks place features ps) 13 place)
           → followed_by (one_position x) r ≡ unknown → FirstFailing (here ++ cell_checks place features ps) 13 place
-      go Nowhere a r b c = fail-left here (cell_checks place features ps) (fail-here 13 place (ap is_somewhere a))
-      go (At k) a unknown b c = fail-right here (cell_checks place features ps) (ap is_somewhere a, tt) (b refl)
-      go (At k) a (found js) b c = unknown≢found (sym c)
+      go None a r b c = fail-left here (cell_checks place features ps) (fail-here 13 place (ap is_somewhere a))
+      go (Some k) a unknown b c = fail-right here (cell_checks place features ps) (ap is_somewhere a, tt) (b refl)
+      go (Some k) a (found js) b c = unknown≢found (sym c)

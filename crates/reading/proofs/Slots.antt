@@ -4,8 +4,8 @@ use mathlib.Core.List.{List, map}
 use Prim.Native.Nat.{ℕ, ◌+◌, ◌-◌, ◌*◌, ◌<◌, ◌≤◌}
 use native.Mathlib.Omega.{arith}
 use lib.ListN.{length, get_or, replicate, length-map, get_or-append}
+use Rattle.std.specs.Prelude.{Some}
 use Rattle.cells.proofs.Rows.{length-padded, padded-behind}
-use Rattle.positions.specs.declared.Position.TheVariants.{At}
 use Rattle.record.specs.Record.{most_features, most_dependencies, slot_count, no_feature, feature_at, slot_at}
 use Rattle.nodes.specs.Nodes.{Node, node_at, children}
 use Rattle.nodes.proofs.RowLaws.{row-node}
@@ -37,14 +37,14 @@ module _ (c : Node) {slots : List ℕ} (r : Rows (children c) (children c) slots
   rest = replicate (slot_count - length slots) 0
 
   pub slot-at : (i j : ℕ) → i < length (children c) → j < length (dependencies_of (node_at (children c) i))
-      → carrier (children c) (get_or (dependencies_of (node_at (children c) i)) j 0) ≡ At (slot_at (record_with c slots) i j)
+      → carrier (children c) (get_or (dependencies_of (node_at (children c) i)) j 0) ≡ Some (slot_at (record_with c slots) i j)
   unfolding record_with
   slot-at i j h l =
       let row = row-at (children c) rest r i h in
       let ks = row.positions in
       let m : j < length ks = omega (arith, carriers-length (children c) row.carriers) in
       carriers-at (children c) row.carriers j l
-      ∙ ap (λ (k : ℕ). At k) (sym (row.slot j (omega (arith, row.few)) ∙ get_or-append ks (replicate (most_dependencies - length ks) 0) 0 j m))
+      ∙ ap (λ (k : ℕ). Some k) (sym (row.slot j (omega (arith, row.few)) ∙ get_or-append ks (replicate (most_dependencies - length ks) 0) 0 j m))
 
   pub no-slot : (i j : ℕ) → i < length (children c) → length (dependencies_of (node_at (children c) i)) ≤ j → j < most_dependencies → slot_at (record_with c slots) i j ≡ 0
   unfolding record_with

@@ -3,7 +3,9 @@ use mathlib.Core.Path.{◌≡◌, refl, sym, ap, ◌∙◌}
 use mathlib.Core.List.{List}
 use Prim.Native.Nat.{ℕ, zero, suc}
 use native.Mathlib.Omega.{arith}
-use Rattle.refusal.specs.Refusal.{number_of, Placed, placed, refuse_at, fault}
+use Rattle.refusal.specs.declared.RefusedAt.{RefusedAt}
+use Rattle.refusal.specs.Refusal.{Placed, placed, refuse_at, fault, number_of, fault_of_refused}
+use Rattle.refusal.proofs.Numbers.{numbered}
 use Rattle.header.specs.declared.Blocks.{Blocks}
 use Rattle.header.specs.Header.{blocks_of}
 use Rattle.header.proofs.Accepted.{Lies, header-lies}
@@ -12,10 +14,9 @@ use Rattle.record.specs.Record.{no_features}
 use Rattle.walk.specs.declared.Containers.{Containers}
 use Rattle.walk.specs.declared.Layout.{Layout}
 use Rattle.walk.specs.Containers.{first_two}
-use Rattle.walk.specs.declared.Checked.{Checked}
-use Rattle.walk.specs.Checked.{check_tree, layout_of, checked_outcome}
+use Rattle.walk.specs.Checked.{check_tree, no_layout, layout_of}
 use Rattle.walk.specs.Faults.{CheckEnds, answered, header_refused, walk_refused}
-use Rattle.walk.proofs.CheckEnds.{check-ends, check-answered}
+use Rattle.walk.proofs.CheckEnds.{check-ends}
 use Rattle.reading.specs.Reading.{containers_of, read_accepted, after_walk, read_record}
 use Rattle.reading.proofs.Containers.{offsets, containers-noted}
 
@@ -48,21 +49,14 @@ walked {tree} {b} {found} e =
 
 -- the walk comes first
 module _ (tree : List ℕ) where
-  pub walk-refused : (r : Checked) → checked_outcome r ≡ check_tree tree → (number_of r.refusal ≡ 0 → ⊥)
-      → {x : Placed Record} → x ≡ refuse_at no_features (fault (number_of r.refusal) r.place) → x ≡ read_record tree
+  pub walk-refused : (e : RefusedAt) → refuse_at no_layout (fault_of_refused e) ≡ check_tree tree
+      → refuse_at no_features (fault_of_refused e) ≡ read_record tree
   unfolding read_record
-  walk-refused r e z q = q ∙ go (number_of r.refusal) refl ∙ ap (after_walk tree) e
+  walk-refused e k = go (number_of e.refusal) (numbered e.refusal) ∙ ap (after_walk tree) k
     where
-      go : (n : ℕ) → number_of r.refusal ≡ n → refuse_at no_features (fault (number_of r.refusal) r.place) ≡ after_walk tree (checked_outcome r)
-      go zero k = absurd (z k)
-      go (suc n) k = rw k
-
-  pub walk-accepted : (r : Checked) → checked_outcome r ≡ check_tree tree → number_of r.refusal ≡ 0
-      → check_tree tree ≡ placed (record { blocks = r.layout.blocks; containers = r.layout.containers })
-  walk-accepted r e z =
-      let k : (check_tree tree).number ≡ 0 = sym (ap (λ (x : Placed Layout). x.number) e) ∙ z in
-      let p : r.place ≡ 0 = ap (λ (x : Placed Layout). x.place) e ∙ check-answered tree k in
-      sym e ∙ rw (z, p)
+      go : (n : ℕ) → (n ≡ 0 → ⊥) → refuse_at no_features (fault n e.place) ≡ after_walk tree (refuse_at no_layout (fault n e.place))
+      go zero z = absurd (z refl)
+      go (suc n) z = refl
 
   pub after-accepted : {b : Blocks} {found : Containers} → check_tree tree ≡ placed (record { blocks = b; containers = found })
       → {x : Placed Record} → x ≡ read_accepted tree b → x ≡ read_record tree

@@ -1,10 +1,8 @@
 -- Dependencies: from phandles to positions (document 01, "The feature record").
-use Rattle.std.specs.Prelude.{ℕ, Bool, List, [], ◌∷◌, ◌++◌, length}
+use Rattle.std.specs.Prelude.{ℕ, Bool, List, [], ◌∷◌, ◌++◌, Option, None, Some, length}
 use Rattle.refusal.specs.Refusal.{Fault, fault}
 use Rattle.refusal.specs.Checks.{Check, check}
 use Rattle.cells.specs.Rows.{padded}
-use Rattle.positions.specs.declared.Position.{Position}
-use Rattle.positions.specs.declared.Position.TheVariants.{Nowhere, At}
 use Rattle.positions.specs.Below.{first_that, is_somewhere}
 use Rattle.record.specs.Record.{most_dependencies}
 use Rattle.nodes.specs.Nodes.{Node, node_at}
@@ -16,7 +14,7 @@ abbrev pub carries_at : List Node → ℕ → ℕ → Bool
 carries_at features p i = carries p (node_at features i)
 
 -- which feature carries a phandle: the first that does, or none
-abbrev pub carrier : List Node → ℕ → Position
+abbrev pub carrier : List Node → ℕ → Option ℕ
 carrier features p = first_that (length features) (carries_at features p)
 
 -- "otherwise 13 at the begin token of the naming feature"
@@ -35,9 +33,9 @@ pub data Resolution : Type 0 where
   found : (positions : List ℕ) → Resolution
 
 -- what one phandle resolves to, by its carrier
-abbrev pub one_position : Position → Resolution
-one_position Nowhere = unknown
-one_position (At i) = found (i ∷ [])
+abbrev pub one_position : Option ℕ → Resolution
+one_position None = unknown
+one_position (Some i) = found (i ∷ [])
 
 -- two resolutions, one behind the other; nothing where one of them is
 abbrev pub followed_by : Resolution → Resolution → Resolution

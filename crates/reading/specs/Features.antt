@@ -1,13 +1,11 @@
 -- The features: their names and their properties (document 01, "The feature record").
-use Rattle.std.specs.Prelude.{ℕ, Bool, true, false, not, List, [], ◌∷◌, ◌++◌, leb, eqb, length}
+use Rattle.std.specs.Prelude.{ℕ, Bool, true, false, not, List, [], ◌∷◌, ◌++◌, Option, None, Some, leb, eqb, length}
 use Rattle.refusal.specs.Refusal.{Fault, fault}
 use Rattle.refusal.specs.Checks.{Check, check}
 use Rattle.names.specs.Names.{same_text, either}
 use Rattle.record.specs.declared.Feature.{Feature}
 use Rattle.record.specs.declared.Property.{Property}
 use Rattle.record.specs.declared.Property.TheVariants.{Isa, UsablePrivilege, HvSupport, OsSupport, HfscrBitNr, FscrBitNr, HwcapBitNr, Phandle, Dependencies}
-use Rattle.record.specs.declared.Cell.{Cell}
-use Rattle.record.specs.declared.Cell.TheVariants.{Absent, Given}
 use Rattle.record.specs.Record.{highest_hfscr_bit, highest_fscr_bit, highest_hwcap_bit, most_dependencies}
 use Rattle.record.specs.Cells.{feature_with}
 use Rattle.nodes.specs.Nodes.{Node}
@@ -84,16 +82,16 @@ feature_checks before n =
     ++ dependencies_checks n.at (value_of n "dependencies")
 
 -- what a node has of a property of one cell, and of its dependencies: how many
-abbrev pub cell_of : Value → Cell
-cell_of missing = Absent
-cell_of (value bs) = Given (number (value bs))
+abbrev pub cell_of : Value → Option ℕ
+cell_of missing = None
+cell_of (value bs) = Some (number (value bs))
 
-abbrev pub count_of : Value → Cell
-count_of missing = Absent
-count_of (value bs) = Given (length (cells_of (value bs)))
+abbrev pub count_of : Value → Option ℕ
+count_of missing = None
+count_of (value bs) = Some (length (cells_of (value bs)))
 
--- its cells: "Absent and zero differ"
-unfoldable pub cell_in : Node → Property → Cell
+-- its cells: "None and zero differ"
+unfoldable pub cell_in : Node → Property → Option ℕ
 cell_in n Isa = cell_of (value_of n "isa")
 cell_in n UsablePrivilege = cell_of (value_of n "usable-privilege")
 cell_in n HvSupport = cell_of (value_of n "hv-support")
