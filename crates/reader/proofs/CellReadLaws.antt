@@ -1,5 +1,5 @@
 -- A property of one cell, by where its value lies. Assumes nothing.
-use mathlib.Core.Path.{◌≡◌, refl, sym, ◌∙◌}
+use mathlib.Core.Path.{◌≡◌, refl, sym, ap, ◌∙◌}
 use mathlib.Core.Bool.{Bool, true, false}
 use mathlib.Core.List.{List}
 use Prim.Native.Nat.{ℕ, ◌+◌, ◌<◌, ◌≤◌}
@@ -9,11 +9,12 @@ use borrow.Author.Tests.{eq-eqb, ne_eqb}
 use lib.Dec.{eqb}
 use lib.ListN.{length, take, drop, get_or, length-take, length-drop}
 use lib.Seq.{get_or-take, get_or-drop}
+use Rattle.std.specs.Prelude.{None, Some, Ok, Err}
 use Rattle.cells.specs.Cells.{cell_at}
-use Rattle.refusal.specs.declared.Refusal.TheVariants.{None, PropertyForm}
+use Rattle.refusal.specs.declared.Refusal.TheVariants.{PropertyForm}
 use Rattle.nodes.specs.Values.{Value, missing}
 use Rattle.nodes.specs.Parts.{Lies}
-use Rattle.reader.specs.Parts.{no_cell, CellIs}
+use Rattle.reader.specs.Parts.{CellIs}
 
 -- the first cell of a part of a tree
 cell-part : (tree : List ℕ) (from size : ℕ) → 4 ≤ size → cell_at (take size (drop from tree)) 0 ≡ cell_at tree from
@@ -27,24 +28,19 @@ module _ {tree : List ℕ} {v : Value} {from size : ℕ} (g : Lies tree v from s
   pub long : length (take size (drop from tree)) ≡ size
   long = omega (arith, g.within, length-take size (drop from tree), length-drop from tree)
 
-  pub cell-given : (needed : Bool) {n : ℕ} → size ≡ 4 → n ≡ cell_at tree from → CellIs needed v (record { refusal = None; given = true; number = n })
+  pub cell-given : (needed : Bool) {n : ℕ} → size ≡ 4 → n ≡ cell_at tree from → CellIs needed v (Ok (Some n))
   cell-given needed {n} e k =
       let l : eqb (length (take size (drop from tree))) 4 ≡ true = eq-eqb (length (take size (drop from tree))) 4 (long ∙ e) in
-      rw g.bytes
-      (record {
-        fault = rw l;
-        cell = λ z. record { given = refl; number = k ∙ sym (cell-part tree from size (omega arith)) };
-        refused = λ z. absurd (z (rw l));
-      })
+      rw g.bytes (record { fault = rw l; cell = λ z. ap Some (k ∙ sym (cell-part tree from size (omega arith))) })
 
-  pub cell-long : (needed : Bool) → (size ≡ 4 → ⊥) → CellIs needed v (no_cell PropertyForm)
+  pub cell-long : (needed : Bool) → (size ≡ 4 → ⊥) → CellIs needed v (Err PropertyForm)
   cell-long needed e =
       let l : eqb (length (take size (drop from tree))) 4 ≡ false = ne_eqb (length (take size (drop from tree))) 4 (λ q. e (sym long ∙ q)) in
-      rw g.bytes (record { fault = rw l; cell = λ z. let q : ◌≡◌ {A = ℕ} 11 0 = sym (rw l) ∙ z in absurd (omega arith); refused = λ z. (refl, refl) })
+      rw g.bytes (record { fault = rw l; cell = λ z. absurd (omega arith) })
 
 module _ {v : Value} (e : v ≡ missing) where
-  pub cell-missing : {needed : Bool} → needed ≡ true → CellIs needed v (no_cell PropertyForm)
-  cell-missing z = rw (e, z) (record { fault = refl; cell = λ q. record { given = refl; number = refl }; refused = λ q. (refl, refl) })
+  pub cell-missing : {needed : Bool} → needed ≡ true → CellIs needed v (Err PropertyForm)
+  cell-missing z = rw (e, z) (record { fault = refl; cell = λ q. absurd (omega arith) })
 
-  pub cell-absent : {needed : Bool} → needed ≡ false → CellIs needed v (no_cell None)
-  cell-absent z = rw (e, z) (record { fault = refl; cell = λ q. record { given = refl; number = refl }; refused = λ q. (refl, refl) })
+  pub cell-absent : {needed : Bool} → needed ≡ false → CellIs needed v (Ok None)
+  cell-absent z = rw (e, z) (record { fault = refl; cell = λ q. refl })

@@ -5,26 +5,29 @@ use mathlib.Core.List.{List, [], ◌∷◌, ◌++◌}
 use Prim.Native.Nat.{ℕ, ◌+◌, ◌-◌}
 use native.Mathlib.Omega.{arith}
 use lib.ListN.{take, drop, replicate}
+use Rattle.std.specs.Prelude.{Ok, Err}
 use Rattle.container.specs.Container.{is_container_type, is_container_compatible}
 use Rattle.characters.specs.Characters.{bytes}
 use Rattle.record.specs.declared.Feature.{Feature}
 use Rattle.record.specs.declared.Record.{Record}
 use Rattle.record.specs.Record.{most_features, slot_count, no_feature, no_features}
 use Rattle.refusal.specs.declared.Refusal.TheVariants.{PropertyForm}
-use Rattle.refusal.specs.Refusal.{Fault, fault}
+use Rattle.refusal.specs.Refusal.{Fault, fault, number_in}
+use Rattle.refusal.proofs.Numbers.{numbered}
 use Rattle.refusal.specs.Checks.{Check, check}
 use Rattle.tokens.specs.Steps.{pick}
 use Rattle.tokens.specs.Tokens.{Token}
-use Rattle.feature.specs.declared.CellRead.{CellRead}
+use Rattle.feature.specs.Feature.{CellRead}
 use Rattle.nodes.specs.Nodes.{Node}
 use Rattle.nodes.specs.Values.{Value, missing, value, value_in, value_of, bytes_of, is_cell}
 use Rattle.reading.specs.Features.{required_checks}
 use Rattle.reading.specs.Reading.{container_properties}
 use Rattle.reading.specs.Ends.{FirstFailing}
 use Rattle.nodes.specs.Parts.{Lies}
-use Rattle.reader.specs.Parts.{cell_fault, no_cell, CellIs, Judged, is_container, ContainerIs}
+use Rattle.reader.specs.Parts.{cell_fault, CellIs, Judged, is_container, ContainerIs}
 use Rattle.reading.proofs.CheckLaws.{fail-left, fail-right, fail-here}
 use Rattle.reader.proofs.JudgedLaws.{judged-check}
+use Rattle.reader.proofs.RangeLaws.{number-cell}
 
 -- a record of no features, as the code makes it
 abbrev none : Feature → Record
@@ -62,9 +65,6 @@ compatible c = is_container_compatible (bytes_of (value_of c "compatible"))
 abbrev check_of : Node → Bool → List (Check Fault)
 check_of c holds = check holds (fault 11 c.at) ∷ []
 
-bad-container : (c : Node) {r : CellRead} → FirstFailing (container_properties c) 11 c.at → r ≡ no_cell PropertyForm → ContainerIs c r
-bad-container c f e = rw e (record { judged = record { hold = λ z. absurd (omega arith); fail = λ z. f }; isa = λ z. absurd (omega arith) })
-
 module _ (ts : List Token) where
   -- a container's values are those of some tokens
   abbrev Same : Node → Type 0
@@ -73,23 +73,12 @@ module _ (ts : List Token) where
   abbrev Reads : CellRead → Type 0
   Reads r = (c : Node) → Same c → ContainerIs c r
 
-  -- both strings
-  pub other-type : {d : Bool} {bs : List ℕ} → d ≡ is_container_type bs → bs ≡ bytes_of (value_in (bytes "device_type") ts) → d ≡ false → false ≡ is_container ts
-  unfolding is_container
-  other-type e k z = rw (← k, sym e ∙ z)
-
-  pub right-type : {d g : Bool} {bs cs : List ℕ} → d ≡ is_container_type bs → bs ≡ bytes_of (value_in (bytes "device_type") ts) → d ≡ true
-      → g ≡ is_container_compatible cs → cs ≡ bytes_of (value_in (bytes "compatible") ts)
-      → g ≡ is_container ts
-  unfolding is_container
-  right-type e k z f l = rw (← k, sym e ∙ z, ← l) f
-
   both : (c : Node) → Same c → is_container ts ≡ (typed c && compatible c)
   unfolding is_container
   both c same = rw (← same (bytes "device_type"), ← same (bytes "compatible"))
 
-  pub not-container : is_container ts ≡ false → {r : CellRead} → r ≡ no_cell PropertyForm → Reads r
-  not-container z q c same = bad-container c (go (typed c) refl (compatible c) refl (sym (both c same) ∙ z)) q
+  pub not-container : is_container ts ≡ false → Reads (Err PropertyForm)
+  not-container z c same = go (typed c) refl (compatible c) refl (sym (both c same) ∙ z)
     where
       go : (d : Bool) → typed c ≡ d → (g : Bool) → compatible c ≡ g → (d && g) ≡ false → FirstFailing (container_properties c) 11 c.at
       go false e g k z = fail-left (check_of c (typed c)) _ (fail-here 11 c.at e)
@@ -99,16 +88,14 @@ module _ (ts : List Token) where
   pub container-read : is_container ts ≡ true → {r : CellRead} → CellIs true (value_in (bytes "isa") ts) r → Reads r
   container-read y {r} h c same =
       let m = subst (λ (v : Value). CellIs true v r) (sym (same (bytes "isa"))) h in
-      let j = needed-judged c.at (value_of c "isa") m.fault in
       let t = go (typed c) (compatible c) (sym (both c same) ∙ y) in
-      record {
-        judged = record {
-          hold = λ x. (t.0, (t.1, j.hold x));
-          fail = λ x. fail-right (check_of c (typed c) ++ check_of c (compatible c)) _ (t.0, (t.1, tt)) (j.fail x);
-        };
-        isa = λ x. (m.cell (sym m.fault ∙ x)).number;
-      }
+      is r m t.0 t.1 (needed-judged c.at (value_of c "isa") m.fault)
     where
       go : (d g : Bool) → (d && g) ≡ true → (d ≡ true) × (g ≡ true)
       go true g e = (refl, e)
       go false g e = absurd (false≢true e)
+
+      is : (r : CellRead) → CellIs true (value_of c "isa") r → typed c ≡ true → compatible c ≡ true
+          → Judged (required_checks c.at (value_of c "isa")) (number_in r) c.at → ContainerIs c r
+      is (Ok isa) m d g j = record { hold = (d, (g, j.hold refl)); is = sym (number-cell (value_of c "isa") (m.cell refl)) }
+      is (Err e) m d g j = fail-right (check_of c (typed c) ++ check_of c (compatible c)) _ (d, (g, tt)) (j.fail (numbered e))

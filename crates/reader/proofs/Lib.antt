@@ -10,6 +10,7 @@ pub mod CellSlotLaws
 pub mod ResolveLaws
 pub mod RecordLaws
 pub mod Answers
+pub mod PlacedLaws
 pub mod ContainerLaws
 pub mod RepeatLaws
 pub mod ChildrenLaws

@@ -6,6 +6,10 @@ use native.Mathlib.Omega.{arith}
 use borrow.Author.Tests.{le-leb, lt-leb}
 use lib.ListN.{length, get_or}
 use Rattle.strings.specs.Strings.{text_at}
+use borrow.Author.Rules.{rules}
+use Rattle.std.specs.Prelude.{Option, None, Some, Ok, Err, unwrap_or}
+use Rattle.std.specs.Option.{IsSome}
+use Rattle.refusal.specs.declared.Refusal.{Refusal}
 use Rattle.refusal.specs.Refusal.{Fault, number_of, Placed, placed, refuse_at, fault}
 use Rattle.refusal.specs.Checks.{Check, first_fault}
 use Rattle.header.specs.declared.Blocks.{Blocks}
@@ -14,16 +18,14 @@ use Rattle.record.specs.declared.Record.{Record}
 use Rattle.record.specs.Record.{no_features}
 use Rattle.walk.specs.declared.Containers.{Containers}
 use Rattle.walk.specs.Containers.{first_two}
-use Rattle.feature.specs.declared.CellRead.{CellRead}
 use Rattle.nodes.specs.Nodes.{Node, node_at, children}
 use Rattle.reading.specs.Features.{in_order, name_checks, feature_checks}
 use Rattle.reading.specs.Dependencies.{carrier_checks}
 use Rattle.reading.specs.Reading.{containers_of, container_checks, container_properties, count_checks, read_checks, record_of, read_accepted}
 use Rattle.reading.specs.Ends.{AllHold, FirstFailing}
-use Rattle.nodes.specs.declared.Contents.TheVariants.{Nowhere}
 use Rattle.nodes.specs.Places.{behind_of, next_behind}
 use Rattle.nodes.specs.Parts.{Alike}
-use Rattle.reader.specs.Parts.{ContainerIs, ReadsContainer, Opens, read_children}
+use Rattle.reader.specs.Parts.{ContainerRead, ReadsContainer, Opens, read_children}
 use Rattle.walk.specs.Walk.{name_in, tree_tokens}
 use Rattle.walk.specs.Containers.{container_name}
 use Rattle.reading.proofs.Places.{node-within, children-within, containers-within}
@@ -57,8 +59,8 @@ module _ (tree : List ℕ) (b : Blocks) where
       ++ (in_order name_checks [] (children container)
       ++ (in_order feature_checks [] (children container) ++ carrier_checks (children container) (children container)))
 
-  decides : {n p : ℕ} → FirstFailing (read_checks b.start all) n p → {x : Placed Record} → x ≡ refuse_at no_features (fault n p) → x ≡ read_accepted tree b
-  decides f e = e ∙ sym (fail-decides (refuse_at no_features) _ (placed (record_of container)) f)
+  decides : {n p : ℕ} → FirstFailing (read_checks b.start all) n p → refuse_at no_features (fault n p) ≡ read_accepted tree b
+  decides f = sym (fail-decides (refuse_at no_features) _ (placed (record_of container)) f)
 
   -- the container's children begin within the structure block
   child-within : (i : ℕ) → (node_at (children container) i).at ≤ b.end
@@ -79,21 +81,21 @@ module _ {tree : List ℕ} {b : Blocks} {found : Containers} (w : Walked tree b 
   unfolding first_two
   second_at = offset_at (all tree b) 1 ∙ sym (ap (λ (f : Containers). f.second) w.noted)
 
-  pub none_found : {x : Placed Record} → found.count ≡ 0 → x ≡ refuse_at no_features (fault 10 b.start) → x ≡ read_accepted tree b
+  pub none_found : found.count ≡ 0 → refuse_at no_features (fault 10 b.start) ≡ read_accepted tree b
   unfolding read_checks
-  none_found z e =
+  none_found z =
       let l : length (all tree b) < 1 = omega (arith, counted) in
-      decides tree b (fail-left (container_checks b.start (all tree b)) _ (fail-left (_ ∷ []) _ (fail-here 10 b.start (lt-leb 1 (length (all tree b)) l)))) e
+      decides tree b (fail-left (container_checks b.start (all tree b)) _ (fail-left (_ ∷ []) _ (fail-here 10 b.start (lt-leb 1 (length (all tree b)) l))))
 
-  pub two-found : {x : Placed Record} → (found.count ≡ 0 → ⊥) → (found.count ≡ 1 → ⊥) → x ≡ refuse_at no_features (fault 9 found.second) → x ≡ read_accepted tree b
+  pub two-found : (found.count ≡ 0 → ⊥) → (found.count ≡ 1 → ⊥) → refuse_at no_features (fault 9 found.second) ≡ read_accepted tree b
   unfolding read_checks
-  two-found z o e =
+  two-found z o =
       let l : 1 ≤ length (all tree b) = omega (arith, counted) in
       let k : 1 < length (all tree b) = omega (arith, counted) in
-      decides tree b
+      rw (← second_at)
+      (decides tree b
       (fail-left (container_checks b.start (all tree b)) _
-      (fail-right (_ ∷ []) (_ ∷ []) (le-leb 1 (length (all tree b)) l, tt) (fail-here 9 (node_at (all tree b) 1).at (lt-leb (length (all tree b)) 1 k))))
-      (rw second_at e)
+      (fail-right (_ ∷ []) (_ ∷ []) (le-leb 1 (length (all tree b)) l, tt) (fail-here 9 (node_at (all tree b) 1).at (lt-leb (length (all tree b)) 1 k)))))
 
   module _ (o : found.count ≡ 1) where
     once : length (all tree b) ≡ 1
@@ -109,38 +111,41 @@ module _ {tree : List ℕ} {b : Blocks} {found : Containers} (w : Walked tree b 
     first-within = (omega (arith, located.place, first-at), omega (arith, w.lies.end, w.lies.small))
 
     -- its contents are somewhere, since its name ends
-    pub contents-found : behind_of (found.first + 4) (text_at tree (found.first + 4) b.end) ≡ Nowhere → ⊥
-    contents-found e =
+    pub contents-found : {x : Option ℕ} → x ≡ behind_of (found.first + 4) (text_at tree (found.first + 4) b.end) → IsSome x
+    contents-found {x} e =
         let n = named-ends container_name (tree_tokens tree b b.start) 0 (omega (arith, once)) in
-        ended-somewhere (found.first + 4) (ap (λ (at : ℕ). text_at tree (at + 4) b.end) (sym first-at) ∙ sym located.name ∙ n.1) e
+        there x (λ z. ended-somewhere (found.first + 4) (ap (λ (at : ℕ). text_at tree (at + 4) b.end) (sym first-at) ∙ sym located.name ∙ n.1) (sym e ∙ z))
+      where
+        there : (x : Option ℕ) → (x ≡ None → ⊥) → IsSome x
+        there None h = absurd (h refl)
+        there (Some at) h = search rules
 
     module _ {first : ℕ} (e : first ≡ next_behind (found.first + 4) b.end (text_at tree (found.first + 4) b.end)) where
       alike : Alike (container tree b).behind (tree_tokens tree b first)
       alike = rw (e, ← first-at) located.like
 
-      module _ {isa : CellRead} (g : ReadsContainer tree b first isa) where
-        is : ContainerIs (container tree b) isa
+      pub container-refused : (e : Refusal) → ReadsContainer tree b first (Err e) → refuse_at no_features (fault (number_of e) found.first) ≡ read_accepted tree b
+      unfolding read_checks
+      container-refused e g =
+          rw (← first-at)
+          (decides tree b
+          (fail-right (container_checks b.start (all tree b)) _ one_holds
+          (fail-left (container_properties (container tree b)) _ (g (container tree b) alike.values))))
+
+      module _ {isa : Option ℕ} (g : ReadsContainer tree b first (Ok isa)) where
+        is : ContainerRead (container tree b) isa
         is = g (container tree b) alike.values
 
-        pub container-refused : {x : Placed Record} → (number_of isa.refusal ≡ 0 → ⊥) → x ≡ refuse_at no_features (fault (number_of isa.refusal) found.first)
-            → x ≡ read_accepted tree b
-        unfolding read_checks
-        container-refused z q =
-            decides tree b
-            (fail-right (container_checks b.start (all tree b)) _ one_holds (fail-left (container_properties (container tree b)) _ (is.judged.fail z)))
-            (rw first-at q)
+        pub opened : Opens tree b (unwrap_or isa 0) first (container tree b)
+        opened = record { like = alike; isa = is.is; low = λ i. omega (arith, child-within tree b i, first-within.1) }
 
-        module _ (z : number_of isa.refusal ≡ 0) where
-          pub opened : Opens tree b isa.number first (container tree b)
-          opened = record { like = alike; isa = is.isa z; low = λ i. omega (arith, child-within tree b i, first-within.1) }
-
-          pub children-read : {x : Placed Record} → x ≡ read_children (container tree b) → x ≡ read_accepted tree b
-          unfolding read_checks read_children
-          children-read q =
-              q
-              ∙ sym (hold-skips (refuse_at no_features) (container_properties (container tree b)) (behind_properties tree b) (placed (record_of (container tree b))) (is.judged.hold z))
-              ∙ sym (hold-skips (refuse_at no_features) (container_checks b.start (all tree b)) _ (placed (record_of (container tree b))) one_holds)
-              ∙ sym
-              (ap
-              (λ (l : List (Check Fault)). first_fault (refuse_at no_features) (container_checks b.start (all tree b) ++ (container_properties (container tree b) ++ (count_checks (children (container tree b)) ++ l))) (placed (record_of (container tree b))))
-              (append_assoc (in_order name_checks [] (children (container tree b))) (in_order feature_checks [] (children (container tree b))) (carrier_checks (children (container tree b)) (children (container tree b)))))
+        pub children-read : {x : Placed Record} → x ≡ read_children (container tree b) → x ≡ read_accepted tree b
+        unfolding read_checks read_children
+        children-read q =
+            q
+            ∙ sym (hold-skips (refuse_at no_features) (container_properties (container tree b)) (behind_properties tree b) (placed (record_of (container tree b))) is.hold)
+            ∙ sym (hold-skips (refuse_at no_features) (container_checks b.start (all tree b)) _ (placed (record_of (container tree b))) one_holds)
+            ∙ sym
+            (ap
+            (λ (l : List (Check Fault)). first_fault (refuse_at no_features) (container_checks b.start (all tree b) ++ (container_properties (container tree b) ++ (count_checks (children (container tree b)) ++ l))) (placed (record_of (container tree b))))
+            (append_assoc (in_order name_checks [] (children (container tree b))) (in_order feature_checks [] (children (container tree b))) (carrier_checks (children (container tree b)) (children (container tree b)))))

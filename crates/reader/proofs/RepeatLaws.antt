@@ -6,9 +6,9 @@ use Prim.Native.Nat.{ℕ, suc, ◌<◌}
 use native.Mathlib.Omega.{arith}
 use lib.ListN.{length, take, get_or}
 use lib.Seq.{length-take-le}
+use Rattle.std.specs.Prelude.{None, Some}
 use Rattle.header.specs.declared.Blocks.{Blocks}
 use Rattle.names.specs.Names.{same_text}
-use Rattle.positions.specs.declared.Position.TheVariants.{Nowhere, At}
 use Rattle.positions.proofs.BelowLaws.{no_way}
 use Rattle.nodes.specs.declared.ChildPlaces.{ChildPlaces}
 use Rattle.nodes.specs.Nodes.{Node, node_at}
@@ -52,10 +52,10 @@ module _ (tree : List ℕ) (b : Blocks) (fs : ChildPlaces) (nodes : List Node) (
       let e = none_pass (named i) (take i nodes) (λ j k. named-is i j l (omega arith) ∙ h j (omega arith)) in
       (ap not e, tt)
 
-  pub names-differ : FirstRepeated (same_names tree b.end fs.places) fs.count Nowhere → AllHold (in_order name_checks [] nodes)
+  pub names-differ : FirstRepeated (same_names tree b.end fs.places) fs.count None → AllHold (in_order name_checks [] nodes)
   names-differ f = order-holds name_checks nodes (λ i l. name_new i l (λ j k. f i j (omega (arith, at.count)) k))
 
-  pub names-repeat : (r : ℕ) → FirstRepeated (same_names tree b.end fs.places) fs.count (At r)
+  pub names-repeat : (r : ℕ) → FirstRepeated (same_names tree b.end fs.places) fs.count (Some r)
       → FirstFailing (in_order name_checks [] nodes) 9 (get_or fs.places r no_place).at
   names-repeat r f =
       let h : r < length nodes = omega (arith, f.0, at.count) in

@@ -1,66 +1,44 @@
 // Properties of one cell.
 ghost use Rattle.std.specs.Prelude.{◌≡◌, ◌≤◌, length as length-of};
 ghost use Rattle.characters.specs.Characters.{bytes};
-ghost use Rattle.positions.specs.Bits.{bit as bit-of};
 ghost use Rattle.walk.specs.Walk.{tree_tokens};
 ghost use Rattle.nodes.specs.Values.{value_in};
-ghost use Rattle.reader.specs.Parts.{no_cell, CellIs, at_most, CountIs, BitIs};
+ghost use Rattle.record.specs.Cells.{low_bit};
+ghost use Rattle.feature.specs.Feature.{cell_from};
+ghost use Rattle.reader.specs.Parts.{CellIs, at_most, CountIs, BitIs};
 
 use feature::CellRead;
 use header::Blocks;
-use nodes::{Held, value_of};
-use record::MOST_DEPENDENCIES;
+use nodes::value_of;
+use record::{MOST_DEPENDENCIES, low_bit};
 use refusal::Refusal;
-
-// No cell: it is refused, or not given.
-pub(crate) fn no_cell(refusal: Refusal) -> CellRead
-    ensures { result ≡ no_cell refusal }
-{
-    CellRead {
-        refusal,
-        given: false,
-        number: 0,
-    }
-}
 
 // The property of a name, one cell, among those that begin at `first`; `needed` where it must be given.
 pub(crate) fn read_cell(tree: &[u8], b: Blocks, first: usize, name: &[u8], needed: bool) -> CellRead
     requires { b.end ≤ length-of tree.now }
     ensures { CellIs needed (value_in name.now (tree_tokens tree.now b first)) result }
 {
-    let held = value_of(tree, b, first, name);
-    match held {
-        Held::At { from, length } => {
-            if length != 4 {
-                return no_cell(Refusal::PropertyForm);
-            }
-            CellRead {
-                refusal: Refusal::None,
-                given: true,
-                number: cells::cell_at(tree, from),
-            }
-        }
-        Held::Missing => {
-            if needed {
-                return no_cell(Refusal::PropertyForm);
-            }
-            CellRead {
-                refusal: Refusal::None,
-                given: false,
-                number: 0,
-            }
-        }
+    let Some(value) = value_of(tree, b, first, name) else {
+        return if needed {
+            Err(Refusal::PropertyForm)
+        } else {
+            Ok(None)
+        };
+    };
+    if value.length != 4 {
+        return Err(Refusal::PropertyForm);
     }
+    Ok(Some(cells::cell_at(tree, value.from)))
 }
 
 // A cell, refused where its number is above `high`.
 pub(crate) fn at_most(c: CellRead, high: u32) -> CellRead
     ensures { result ≡ at_most high c }
 {
-    if c.number <= high {
-        return c;
+    match c {
+        Ok(Some(number)) if high < number => Err(Refusal::OutOfRange),
+        _ => c,
     }
-    no_cell(Refusal::OutOfRange)
 }
 
 // A bit number, at most `highest`, needed where bit 0 of a support cell is set.
@@ -75,11 +53,11 @@ pub(crate) fn read_bit(
     requires { b.end ≤ length-of tree.now }
     ensures { BitIs
         highest
-        (bit-of support.number 0)
+        (low_bit (cell_from support))
         (value_in name.now (tree_tokens tree.now b first))
         result }
 {
-    let needed = positions::bit_set(support.number as u64, 0);
+    let needed = low_bit(support.unwrap_or(None));
     at_most(read_cell(tree, b, first, name, needed), highest)
 }
 
@@ -88,19 +66,15 @@ pub(crate) fn read_count(tree: &[u8], b: Blocks, first: usize) -> CellRead
     requires { b.end ≤ length-of tree.now }
     ensures { CountIs (value_in (bytes "dependencies") (tree_tokens tree.now b first)) result }
 {
-    let Held::At { from: _, length } = value_of(tree, b, first, b"dependencies") else {
-        return no_cell(Refusal::None);
+    let Some(value) = value_of(tree, b, first, b"dependencies") else {
+        return Ok(None);
     };
-    if length % 4 != 0 {
-        return no_cell(Refusal::PropertyForm);
+    if value.length % 4 != 0 {
+        return Err(Refusal::PropertyForm);
     }
-    let n = length / 4;
+    let n = value.length / 4;
     if MOST_DEPENDENCIES < n {
-        return no_cell(Refusal::TooMany);
+        return Err(Refusal::TooMany);
     }
-    CellRead {
-        refusal: Refusal::None,
-        given: true,
-        number: n as u32,
-    }
+    Ok(Some(n as u32))
 }

@@ -5,29 +5,21 @@ ghost use Rattle.reader.specs.Parts.{RoomFor, ResolvesCells, ResolvesFeature, So
 
 use feature::carrier_below;
 use header::Blocks;
-use nodes::{ChildPlaces, Held, value_of};
-use positions::Position;
+use nodes::{ChildPlaces, value_of};
 use record::{MOST_DEPENDENCIES, MOST_FEATURES, SLOTS};
-use refusal::Refusal;
+use refusal::{Refusal, RefusedAt};
 
-// What the dependencies of all features find: the refusal of the first that is refused and its place.
-#[derive(Clone, Copy)]
-pub(crate) struct Finding {
-    pub(crate) refusal: Refusal,
-    pub(crate) place: usize,
-}
-
-// The `n` phandles that begin at `from`, each as the position of the feature that carries it, into the slots from `at` on. False where
+// The `n` phandles that begin at `from`, each as the position of the feature that carries it, into the slots from `at` on; refused where
 // no feature carries one.
 fn resolve_cells(
     tree: &[u8],
     from: usize,
     n: usize,
-    phandles: &[u64; MOST_FEATURES],
+    phandles: &[Option<u32>; MOST_FEATURES],
     count: usize,
     slots: &mut [u16; SLOTS],
     at: usize,
-) -> bool
+) -> Result<(), Refusal>
     requires { (from + 4 * n ≤ length-of tree.now) × (count ≤ most_features) × (at + n ≤ slot_count) }
     ensures { ResolvesCells
         tree.now
@@ -40,17 +32,12 @@ fn resolve_cells(
         slots.new
         result }
 {
-    let mut j: usize = 0;
-    while j < n {
+    for j in 0..n {
         let phandle = cells::cell_at(tree, from + 4 * j);
-        let carrier = carrier_below(phandles, count, phandle);
-        match carrier {
-            Position::Nowhere => return false,
-            Position::At(k) => slots[at + j] = k as u16,
-        }
-        j += 1;
+        let carrier = carrier_below(phandles, count, phandle).ok_or(Refusal::UnknownPhandle)?;
+        slots[at + j] = carrier as u16;
     }
-    true
+    Ok(())
 }
 
 // The dependencies of a feature whose properties begin at `first`, into the slots from `at` on.
@@ -58,11 +45,11 @@ fn resolve_feature(
     tree: &[u8],
     b: Blocks,
     first: usize,
-    phandles: &[u64; MOST_FEATURES],
+    phandles: &[Option<u32>; MOST_FEATURES],
     count: usize,
     slots: &mut [u16; SLOTS],
     at: usize,
-) -> bool
+) -> Result<(), Refusal>
     requires { (b.end ≤ length-of tree.now) × (count ≤ most_features) × RoomFor tree.now b first at }
     ensures { ResolvesFeature
         tree.now
@@ -75,13 +62,12 @@ fn resolve_feature(
         slots.new
         result }
 {
-    let held = value_of(tree, b, first, b"dependencies");
-    match held {
-        Held::Missing => true,
-        Held::At { from, length } => resolve_cells(
+    match value_of(tree, b, first, b"dependencies") {
+        None => Ok(()),
+        Some(value) => resolve_cells(
             tree,
-            from,
-            length / 4,
+            value.from,
+            value.length / 4,
             phandles,
             count,
             slots,
@@ -95,33 +81,23 @@ pub(crate) fn resolve(
     tree: &[u8],
     b: Blocks,
     fs: ChildPlaces,
-    phandles: &[u64; MOST_FEATURES],
+    phandles: &[Option<u32>; MOST_FEATURES],
     slots: &mut [u16; SLOTS],
-) -> Finding
+) -> Result<(), RefusedAt>
     requires { (b.end ≤ length-of tree.now) × SomeKnown tree.now b fs phandles.now × (slots.old ≡ replicate slot_count 0) }
     ensures { ResolvesAll tree.now b fs phandles.now slots.new result }
 {
-    let mut i: usize = 0;
-    while i < fs.count {
-        let p = fs.places[i];
-        if !resolve_feature(
+    for (i, p) in fs.places[..fs.count].iter().enumerate() {
+        resolve_feature(
             tree,
             b,
             p.behind,
             phandles,
             fs.count,
-            &mut *slots,
+            slots,
             MOST_DEPENDENCIES * i,
-        ) {
-            return Finding {
-                refusal: Refusal::UnknownPhandle,
-                place: p.at,
-            };
-        }
-        i += 1;
+        )
+        .map_err(|refusal| refusal.at(p.at))?;
     }
-    Finding {
-        refusal: Refusal::None,
-        place: 0,
-    }
+    Ok(())
 }

@@ -6,7 +6,7 @@ mod dependencies;
 mod features;
 
 ghost use Rattle.std.specs.Prelude.{◌≡◌, ◌≤◌, length as length-of};
-ghost use Rattle.refusal.specs.Refusal.{number_of, fault, placed, refuse_at};
+ghost use Rattle.refusal.specs.Refusal.{placed};
 ghost use Rattle.record.specs.Record.{no_features};
 ghost use Rattle.walk.specs.Checked.{check_tree};
 ghost use Rattle.walk.specs.Walk.{tree_tokens};
@@ -22,37 +22,24 @@ ghost use Rattle.reader.specs.Parts.{
   ReadsChildren,
 };
 
-use cell::{no_cell, read_cell};
+use cell::read_cell;
 use dependencies::resolve;
 use feature::{CellRead, no_feature};
 use features::read_features;
 use header::Blocks;
-use nodes::{ChildPlaces, Contents, Held, behind, child_places, repeated_name, value_of};
-use positions::Position;
+use nodes::{ChildPlaces, behind, child_places, repeated_name, value_of};
 use record::{MOST_FEATURES, Record, SLOTS};
-use refusal::Refusal;
+use refusal::{Refusal, RefusedAt};
 use walk::Containers;
-
-// What a reading answers: a refusal with its place, or the feature record; a refused one has a record of no features.
-#[derive(Clone, Copy)]
-pub struct Read {
-    pub refusal: Refusal,
-    pub place: usize,
-    pub record: Record,
-}
 
 // The bytes of a property's value; none where it is missing.
 fn value_part<'a>(tree: &'a [u8], b: Blocks, first: usize, name: &[u8]) -> &'a [u8]
     requires { b.end ≤ length-of tree.now }
     ensures { result.now ≡ bytes_of (value_in name.now (tree_tokens tree.now b first)) }
 {
-    let held = value_of(tree, b, first, name);
-    match held {
-        Held::Missing => &tree[..0],
-        Held::At { from, length } => {
-            let end = from + length;
-            &tree[from..end]
-        }
+    match value_of(tree, b, first, name) {
+        None => &[],
+        Some(value) => &tree[value.from..value.from + value.length],
     }
 }
 
@@ -61,10 +48,8 @@ fn is_container(tree: &[u8], b: Blocks, first: usize) -> bool
     requires { b.end ≤ length-of tree.now }
     ensures { result ≡ is_container (tree_tokens tree.now b first) }
 {
-    if !container::is_container_type(value_part(tree, b, first, b"device_type")) {
-        return false;
-    }
-    container::is_container_compatible(value_part(tree, b, first, b"compatible"))
+    container::is_container_type(value_part(tree, b, first, b"device_type"))
+        && container::is_container_compatible(value_part(tree, b, first, b"compatible"))
 }
 
 // The `isa` of a container whose contents begin at `first`, after its `device_type` and `compatible`.
@@ -73,13 +58,13 @@ fn container_isa(tree: &[u8], b: Blocks, first: usize) -> CellRead
     ensures { ReadsContainer tree.now b first result }
 {
     if !is_container(tree, b, first) {
-        return no_cell(Refusal::PropertyForm);
+        return Err(Refusal::PropertyForm);
     }
     read_cell(tree, b, first, b"isa", true)
 }
 
-// A record of no features.
-fn no_features() -> Record
+// A record of no features, for those who show one beside a refusal.
+pub fn no_features() -> Record
     ensures { result ≡ no_features }
 {
     Record {
@@ -90,107 +75,60 @@ fn no_features() -> Record
     }
 }
 
-// A refusal: its number and place, and a record of no features.
-fn refused(refusal: Refusal, place: usize) -> Read
-    ensures { read_outcome result ≡ refuse_at no_features (fault (number_of refusal) place) }
-{
-    Read {
-        refusal,
-        place,
-        record: no_features(),
-    }
-}
-
 // The features at some places with all that they hold.
-fn read_places(tree: &[u8], b: Blocks, isa: u32, fs: ChildPlaces) -> Read
+fn read_places(tree: &[u8], b: Blocks, isa: u32, fs: ChildPlaces) -> Result<Record, RefusedAt>
     requires { (b.end ≤ length-of tree.now) × (SomeContainer tree.now b isa fs) }
     ensures { ReadsRecord tree.now b isa fs (read_outcome result) }
 {
-    let mut phandles: [u64; MOST_FEATURES] = [0; MOST_FEATURES];
-    let read = read_features(tree, b, fs, &mut phandles);
-    let refusal = read.refusal;
-    if refusal::number(refusal) != 0 {
-        return refused(refusal, read.place);
-    }
+    let mut phandles: [Option<u32>; MOST_FEATURES] = [None; MOST_FEATURES];
+    let features = read_features(tree, b, fs, &mut phandles)?;
     // Document 01: "one flat run of 1,024 dependency slots".
     let mut slots: [u16; SLOTS] = [0; SLOTS];
-    let found = resolve(tree, b, fs, &phandles, &mut slots);
-    let features = read.features;
-    let so_far = Record {
+    resolve(tree, b, fs, &phandles, &mut slots)?;
+    Ok(Record {
         isa,
         count: fs.count as u32,
         features,
         slots,
-    };
-    let refusal = found.refusal;
-    if refusal::number(refusal) != 0 {
-        let none = no_features();
-        return Read {
-            refusal,
-            place: found.place,
-            record: none,
-        };
-    }
-    Read {
-        refusal: Refusal::None,
-        place: 0,
-        record: so_far,
-    }
+    })
 }
 
 // The features of a container whose contents begin at `first`.
-fn read_children(tree: &[u8], b: Blocks, isa: u32, first: usize) -> Read
+fn read_children(tree: &[u8], b: Blocks, isa: u32, first: usize) -> Result<Record, RefusedAt>
     requires { (b.end ≤ length-of tree.now) × (SomeOpen tree.now b isa first) }
     ensures { ReadsChildren tree.now b isa first (read_outcome result) }
 {
     let fs = child_places(tree, b, first);
-    if fs.more {
-        return refused(Refusal::TooMany, fs.over);
+    if let Some(over) = fs.over {
+        return Err(Refusal::TooMany.at(over));
     }
-    match repeated_name(tree, b, fs) {
-        Position::At(later) => {
-            let p = fs.places[later];
-            refused(Refusal::Repeated, p.at)
-        }
-        Position::Nowhere => read_places(tree, b, isa, fs),
+    if let Some(later) = repeated_name(tree, b, fs) {
+        return Err(Refusal::Repeated.at(fs.places[later].at));
     }
+    read_places(tree, b, isa, fs)
 }
 
 // The record of an accepted tree, with the containers that the walk noted.
-fn read_container(tree: &[u8], b: Blocks, found: Containers) -> Read
+fn read_container(tree: &[u8], b: Blocks, found: Containers) -> Result<Record, RefusedAt>
     requires { check_tree tree.now ≡ placed (record { blocks = b; containers = found }) }
     ensures { read_outcome result ≡ read_accepted tree.now b }
 {
     if found.count == 0 {
-        return refused(Refusal::NotFound, b.start);
+        return Err(Refusal::NotFound.at(b.start));
     }
     if found.count != 1 {
-        return refused(Refusal::Repeated, found.second);
+        return Err(Refusal::Repeated.at(found.second));
     }
-    match behind(tree, b.end, found.first + 4) {
-        Contents::At(first) => {
-            let isa = container_isa(tree, b, first);
-            let refusal = isa.refusal;
-            if refusal::number(refusal) != 0 {
-                return refused(refusal, found.first);
-            }
-            read_children(tree, b, isa.number, first)
-        }
-        // Never so: the walk noted the container by its name, which ends.
-        Contents::Nowhere => refused(Refusal::Name, found.first),
-    }
+    // The walk noted the container by its name, which ends.
+    let first = behind(tree, b.end, found.first + 4).unwrap();
+    let isa = container_isa(tree, b, first).map_err(|refusal| refusal.at(found.first))?;
+    read_children(tree, b, isa.unwrap_or(0), first)
 }
 
 // The feature record of a tree.
-pub fn read_record(tree: &[u8]) -> Read
+pub fn read_record(tree: &[u8]) -> Result<Record, RefusedAt>
     ensures { read_outcome result ≡ read_record tree.now }
 {
-    let checked = walk::check_tree(tree);
-    let refusal = checked.refusal;
-    let number = refusal::number(refusal);
-    if number != 0 {
-        return refused(refusal, checked.place);
-    }
-    let layout = checked.layout;
+    let layout = walk::check_tree(tree)?;
     read_container(tree, layout.blocks, layout.containers)
 }

@@ -4,7 +4,7 @@ use Rattle.reader.proofs.ContainerLaws.{not-container, container-read}
 use Rattle.reader.proofs.container_isa.Goals as goal
 
 pub returns-then-not-is_container : goal.returns-then-not-is_container
-returns-then-not-is_container c = not-container _ (sym c.is_container.ensures ∙ c.if-not-is_container.true) c.no_cell.ensures
+returns-then-not-is_container c = not-container _ (sym c.is_container.ensures ∙ c.if-not-is_container.true)
 
 pub returns : goal.returns
 returns c = container-read _ (sym c.is_container.ensures ∙ c.if-not-is_container.false) c.read_cell.ensures

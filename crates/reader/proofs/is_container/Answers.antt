@@ -1,12 +1,13 @@
 -- `reader::is_container` meets its contract. Assumes nothing.
-use Rattle.reader.proofs.ContainerLaws.{other-type, right-type}
+use Rattle.reader.specs.Parts.{is_container}
 use Rattle.reader.proofs.is_container.Goals as goal
 
-pub returns-then-not-is_container_type : goal.returns-then-not-is_container_type
-returns-then-not-is_container_type c = other-type _ c.is_container_type.ensures c.value_part.ensures c.if-not-is_container_type.true
+pub returns-then-is_container_type : goal.returns-then-is_container_type
+unfolding is_container
+returns-then-is_container_type c =
+    rw (← c.value_part.ensures, ← c.is_container_type.ensures, c.if-is_container_type.true, ← c.value_part-then-is_container_type.ensures)
+    c.is_container_compatible.ensures
 
-pub returns : goal.returns
-returns c =
-    let t = c in
-    right-type _ t.is_container_type.ensures t.value_part.ensures c.if-not-is_container_type.false
-    c.is_container_compatible.ensures c.value_part-2.ensures
+pub returns-else-is_container_type : goal.returns-else-is_container_type
+unfolding is_container
+returns-else-is_container_type c = rw (← c.value_part.ensures, ← c.is_container_type.ensures, c.if-is_container_type.false)

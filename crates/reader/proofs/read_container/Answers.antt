@@ -1,56 +1,55 @@
 -- `reader::read_container` meets its contract. Assumes nothing.
-use mathlib.Core.Path.{sym, ◌∙◌}
+use mathlib.Core.Path.{◌≡◌, sym, ◌∙◌}
+use native.Mathlib.Omega.{arith}
+use borrow.Author.Rules.{rules}
+use Rattle.std.proofs.lemmas.Result.{err_from_is_err_and}
+use Rattle.refusal.specs.Refusal.{refused_at}
 use Rattle.nodes.proofs.BehindLaws.{next-at}
 use Rattle.reading.proofs.WalkedLaws.{walked}
+use Rattle.reader.proofs.PlacedLaws.{was_ok, was_err}
 use Rattle.reader.proofs.ReadingLaws.{none_found, two-found, first-within, contents-found, container-refused, opened, children-read}
-use native.Mathlib.Omega.{arith}
 use Rattle.reader.proofs.read_container.Goals as goal
 
 pub returns-then-found-eq0 : goal.returns-then-found-eq0
-returns-then-found-eq0 c = none_found (walked c.requires) c.if-found-eq0.true c.refused.ensures
+returns-then-found-eq0 c = rw c.at.ensures (none_found (walked c.requires) c.if-found-eq0.true)
 
 pub returns-then-found-ne1 : goal.returns-then-found-ne1
-returns-then-found-ne1 c = two-found (walked c.requires) c.if-found-eq0.false c.if-found-ne1.true c.refused-then-found-ne1.ensures
+returns-then-found-ne1 c = rw c.at-then-found-ne1.ensures (two-found (walked c.requires) c.if-found-eq0.false c.if-found-ne1.true)
 
 pub overflow_add-found : goal.overflow_add-found
 overflow_add-found c =
     let l = first-within (walked c.requires) c.if-found-ne1.false in
     omega (arith, l.0, l.1)
 
-pub container_isa-isa-requires : goal.container_isa-isa-requires
-container_isa-isa-requires c =
+pub unwrap-first-requires : goal.unwrap-first-requires
+unwrap-first-requires c = contents-found (walked c.requires) c.if-found-ne1.false c.behind.ensures
+
+pub container_isa-requires : goal.container_isa-requires
+container_isa-requires c =
     let lies = (walked c.requires).lies in
     omega (arith, lies.end, lies.within)
 
-pub returns-then-number-ne0 : goal.returns-then-number-ne0
-returns-then-number-ne0 c =
-    let at = c in
-    let w = walked at.requires in
-    let e = next-at _ _ _ (sym at.behind.ensures ∙ c.in-At.is) in
-    container-refused w at.if-found-ne1.false e c.container_isa-isa.ensures
-    (λ q. c.if-number-ne0.true (c.number.ensures ∙ q))
-    c.refused-then-number-ne0.ensures
+pub returns-in_err-isa : goal.returns-in_err-isa
+returns-in_err-isa c =
+    let first = next-at _ _ _ (sym c.behind.ensures ∙ c.unwrap-first.ensures) in
+    let err = was_err _ c.container_isa.result c.map_err.result c.map_err.ensures.cases c.in_err-isa.was in
+    let p = err_from_is_err_and c.from_residual.result c.from_residual.ensures.1 in
+    let k = err.2 in
+    let e : p.0 ≡ refused_at err.0 c.args.found.first = p.2 ∙ search (rules, k) in
+    rw (p.1, e) (container-refused (walked c.requires) c.if-found-ne1.false first err.0 (rw err.1 at c.container_isa.ensures))
 
 pub read_children-requires : goal.read_children-requires
 read_children-requires c =
-    let at = c in
-    let w = walked at.requires in
-    let e = next-at _ _ _ (sym at.behind.ensures ∙ c.in-At.is) in
-    let z = sym c.number.ensures ∙ c.if-number-ne0.false in
-    (omega (arith, w.lies.end, w.lies.within), (_, opened w at.if-found-ne1.false e c.container_isa-isa.ensures z))
+    let w = walked c.requires in
+    let first = next-at _ _ _ (sym c.behind.ensures ∙ c.unwrap-first.ensures) in
+    let ok = was_ok _ c.container_isa.result c.map_err.result c.map_err.ensures.cases c.in_ok-isa.was in
+    rw c.unwrap_or.ensures
+    (omega (arith, w.lies.end, w.lies.within), (_, opened w c.if-found-ne1.false first (rw ok at c.container_isa.ensures)))
 
-pub returns-else-number-ne0 : goal.returns-else-number-ne0
-returns-else-number-ne0 c =
-    let at = c in
-    let w = walked at.requires in
-    let o = at.if-found-ne1.false in
-    let e = next-at _ _ _ (sym at.behind.ensures ∙ c.in-At.is) in
-    let g = c.container_isa-isa.ensures in
-    let z = sym c.number.ensures ∙ c.if-number-ne0.false in
-    children-read w o e g z (c.read_children.ensures _ (opened w o e g z))
-
-pub returns-in-Nowhere : goal.returns-in-Nowhere
-returns-in-Nowhere c =
-    let at = c in
-    let w = walked at.requires in
-    absurd (contents-found w at.if-found-ne1.false (sym at.behind.ensures ∙ c.in-Nowhere.is))
+pub returns : goal.returns
+returns c =
+    let w = walked c.requires in
+    let first = next-at _ _ _ (sym c.behind.ensures ∙ c.unwrap-first.ensures) in
+    let ok = was_ok _ c.container_isa.result c.map_err.result c.map_err.ensures.cases c.in_ok-isa.was in
+    let g = rw ok at c.container_isa.ensures in
+    children-read w c.if-found-ne1.false first g (c.read_children.ensures _ (rw c.unwrap_or.ensures (opened w c.if-found-ne1.false first g)))

@@ -1,43 +1,22 @@
 -- `reader::read_places` meets its contract. Assumes nothing.
-use mathlib.Core.Path.{refl, sym, ◌∙◌}
+use Rattle.std.proofs.lemmas.Result.{err_from_is_err_and}
 use Rattle.reader.proofs.RecordLaws.{features-refused, features-known, slots-refused, slots_read}
-use native.Mathlib.Omega.{arith}
 use Rattle.reader.proofs.read_places.Goals as goal
 
-pub read_features-read-requires : goal.read_features-read-requires
-read_features-read-requires c =
-    let p = c.requires in
-    (p.0, (_, p.1.1.nodes), refl)
+pub returns-in_err-features : goal.returns-in_err-features
+returns-in_err-features c =
+    let p = err_from_is_err_and c.from_residual.result c.from_residual.ensures.1 in
+    rw (p.1, p.2) (λ n g. features-refused g c.read_features.new.phandles _ (c.in_err-features.ensures _ g.nodes))
 
-pub returns-then-number-ne0 : goal.returns-then-number-ne0
-returns-then-number-ne0 c = λ n g.
-    features-refused g (c.read_features-read.ensures _ g.nodes)
-    (λ q. c.if-number-ne0.true (c.number.ensures ∙ q))
-    c.refused.ensures
-
-pub resolve-found-requires : goal.resolve-found-requires
-resolve-found-requires c =
-    let p = c.requires in
-    let g = p.1.1 in
-    let z = sym c.number.ensures ∙ c.if-number-ne0.false in
-    (p.0, (_, features-known g (c.read_features-read.ensures _ g.nodes) z), refl)
-
-pub overflow_cast-so_far : goal.overflow_cast-so_far
-overflow_cast-so_far c =
-    let a = c.requires.1.1.nodes in
-    omega (arith, a.count, a.few)
-
-pub returns-then-number-ne0-2 : goal.returns-then-number-ne0-2
-returns-then-number-ne0-2 c = λ n g.
-    let s = c in
-    let r = s.read_features-read.ensures _ g.nodes in
-    let z = sym s.number.ensures ∙ s.if-number-ne0.false in
-    slots-refused g r z (c.resolve-found.ensures _ (features-known g r z)) (λ q. c.if-number-ne0-2.true (c.number-2.ensures ∙ q))
-    c.no_features-none.ensures refl
+pub returns-in_err-resolve : goal.returns-in_err-resolve
+returns-in_err-resolve c =
+    let p = err_from_is_err_and c.from_residual-in_err-resolve.result c.from_residual-in_err-resolve.ensures.1 in
+    rw (p.1, p.2)
+    (λ n g.
+    let r = c.in_ok-features.ensures _ g.nodes in
+    slots-refused g _ r c.resolve.new.slots _ (c.in_err-resolve.ensures _ (features-known g _ r)))
 
 pub returns : goal.returns
 returns c = λ n g.
-    let s = c in
-    let r = s.read_features-read.ensures _ g.nodes in
-    let z = sym s.number.ensures ∙ s.if-number-ne0.false in
-    slots_read g r z (c.resolve-found.ensures _ (features-known g r z)) (sym c.number-2.ensures ∙ c.if-number-ne0-2.false)
+    let r = c.in_ok-features.ensures _ g.nodes in
+    slots_read g _ r (c.in_ok-resolve.ensures _ (features-known g _ r))

@@ -5,13 +5,13 @@ use native.Mathlib.Omega.{arith}
 use Rattle.reader.proofs.cell.read_count.Goals as goal
 
 pub returns-in_default : goal.returns-in_default
-returns-in_default c = count-missing (shown _ _ _ _ c.value_of.ensures c.in_default.is (omega arith)) c.no_cell.ensures
+returns-in_default c = count-missing (shown _ _ _ _ c.value_of.ensures c.in_default.is (omega arith))
 
-pub returns-then-length-ne0 : goal.returns-then-length-ne0
-returns-then-length-ne0 c = count-ragged (shown _ _ _ _ c.value_of.ensures c.in-At.is (omega arith)) c.if-length-ne0.true c.no_cell-then-length-ne0.ensures
+pub returns-then-value-ne0 : goal.returns-then-value-ne0
+returns-then-value-ne0 c = count-ragged (shown _ _ _ _ c.value_of.ensures c.in-Some.is (omega arith)) c.if-value-ne0.true
 
 pub returns-then-n-gt-MOST_DEPENDENCIES : goal.returns-then-n-gt-MOST_DEPENDENCIES
-returns-then-n-gt-MOST_DEPENDENCIES c = count-many (shown _ _ _ _ c.value_of.ensures c.in-At.is (omega arith)) c.if-length-ne0.false c.if-n-gt-MOST_DEPENDENCIES.true c.no_cell-then-n-gt-MOST_DEPENDENCIES.ensures
+returns-then-n-gt-MOST_DEPENDENCIES c = count-many (shown _ _ _ _ c.value_of.ensures c.in-Some.is (omega arith)) c.if-value-ne0.false c.if-n-gt-MOST_DEPENDENCIES.true
 
 pub returns : goal.returns
-returns c = count-few (shown _ _ _ _ c.value_of.ensures c.in-At.is (omega arith)) c.if-length-ne0.false c.if-n-gt-MOST_DEPENDENCIES.false
+returns c = count-few (shown _ _ _ _ c.value_of.ensures c.in-Some.is (omega arith)) c.if-value-ne0.false c.if-n-gt-MOST_DEPENDENCIES.false

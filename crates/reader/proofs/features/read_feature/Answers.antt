@@ -1,8 +1,10 @@
 -- `reader::features::read_feature` meets its contract. Assumes nothing.
+use mathlib.Core.Path.{◌∙◌}
+use Rattle.reader.proofs.RangeLaws.{cell-or}
 use Rattle.reader.proofs.FeatureLaws.{feature-is}
 use Rattle.reader.proofs.features.read_feature.Goals as goal
 
 pub returns : goal.returns
 returns c =
-    feature-is c.read_cells-cells.ensures c.refusal_of.ensures c.feature_of.ensures
-    c.phandle_noted.ensures
+    feature-is c.try_feature_of.result c.read_cells-cells.ensures c.try_feature_of.ensures
+    (c.unwrap_or.ensures ∙ cell-or c.read_cells-cells.result.phandle)

@@ -1,24 +1,30 @@
 -- `reader::features::read_phandle` meets its contract. Assumes nothing.
-use Rattle.reader.proofs.PhandleLaws.{is-first}
-use Rattle.reader.proofs.PhandleReadLaws.{phandle-absent, phandle-zero, phandle-again, phandle-new}
-use borrow.Author.Tests.{not-true, not-false}
+use mathlib.Core.Path.{refl, sym, ◌∙◌}
+use mathlib.Core.Logic.{inl, inr}
 use native.Mathlib.Omega.{arith}
+use Rattle.std.proofs.lemmas.Result.{err_from_is_err_and}
+use Rattle.reader.proofs.PhandleLaws.{is-first}
+use Rattle.reader.proofs.PhandleReadLaws.{phandle-refused, phandle-out, phandle-again, phandle-new}
 use Rattle.reader.proofs.features.read_phandle.Goals as goal
 
-pub returns-then-not-read : goal.returns-then-not-read
-returns-then-not-read c = phandle-absent c.read_cell.ensures (omega arith) c.at_most-read.ensures (not-true _ c.if-not-read.true)
+pub returns-in_err-phandle : goal.returns-in_err-phandle
+returns-in_err-phandle c =
+    let p = err_from_is_err_and c.from_residual.result c.from_residual.ensures.1 in
+    rw (p.1, p.2) (phandle-refused (rw c.in_err-phandle.was at c.read_cell.ensures))
 
-pub returns-then-read-eq0 : goal.returns-then-read-eq0
-returns-then-read-eq0 c =
-    phandle-zero c.read_cell.ensures (omega arith) c.at_most-read.ensures (not-false _ c.if-not-read.false) c.if-read-eq0.true
-    c.no_cell.ensures
+pub returns-then-phandle-eq0 : goal.returns-then-phandle-eq0
+returns-then-phandle-eq0 c =
+    let h = rw (c.in_ok-phandle.was, c.in-Some.is) at c.read_cell.ensures in
+    elim c.then-phandle-eq0.either [ inl z ↦ phandle-out h (inl z) | inr w ↦ phandle-out h (inr w.1) ]
 
-pub returns-in-Nowhere : goal.returns-in-Nowhere
-returns-in-Nowhere c =
-    phandle-new c.read_cell.ensures (omega arith) c.at_most-read.ensures (not-false _ c.if-not-read.false) c.if-read-eq0.false _
-    (is-first _ (omega arith) c.carrier_below-carrier.ensures c.in-Nowhere.is)
+pub returns-then-is_some : goal.returns-then-is_some
+returns-then-is_some c =
+    let h = rw (c.in_ok-phandle.was, c.in-Some.is) at c.read_cell.ensures in
+    phandle-again h c.if-phandle-eq0.false c.if-phandle.false _ _ (is-first _ (omega arith) c.carrier_below.ensures refl)
+    (sym c.is_some.ensures ∙ c.if-is_some.true)
 
-pub returns-in-At : goal.returns-in-At
-returns-in-At c =
-    phandle-again c.read_cell.ensures (omega arith) c.at_most-read.ensures (not-false _ c.if-not-read.false) c.if-read-eq0.false _
-    (is-first _ (omega arith) c.carrier_below-carrier.ensures c.in-At.is) c.no_cell-in-At.ensures
+pub returns : goal.returns
+returns c =
+    let h = rw (c.in_ok-phandle.was, c.in-Some.is) at c.read_cell.ensures in
+    phandle-new h c.if-phandle-eq0.false c.if-phandle.false _ _ (is-first _ (omega arith) c.carrier_below.ensures refl)
+    (sym c.is_some.ensures ∙ c.if-is_some.false)
