@@ -1,9 +1,9 @@
 -- Where a property of a CPU node is, in numbers (document 01, "CPU properties and unit text").
-use Rattle.std.specs.Prelude.{ℕ, ◌-◌, List}
+use Rattle.std.specs.Prelude.{ℕ, ◌-◌, List, Option, Some, None}
 use Rattle.refusal.specs.Refusal.{Outcome}
 use Rattle.lookup.specs.Lookup.{lookup, reason}
 use Rattle.lookup.specs.declared.Found.{Found}
-use Rattle.lookup.specs.declared.Found.TheVariants.{InCpu, InParent, Nowhere}
+use Rattle.lookup.specs.declared.Found.TheVariants.{InCpu, InParent}
 use Rattle.capi.specs.declared.cpu.YebkuzanProperty.{YebkuzanProperty}
 
 -- "as a part of the one block or of the other": 1 for the CPU node's, 2 for that of `/cpus`, 0 for neither; and the part's offset and
@@ -13,10 +13,10 @@ pub record Part : Type 0 where
   pub offset : ℕ
   pub length : ℕ
 
-abbrev pub part_in : Found → Part
-part_in (InCpu from to) = record { block = 1; offset = from; length = to - from }
-part_in (InParent from to) = record { block = 2; offset = from; length = to - from }
-part_in Nowhere = record { block = 0; offset = 0; length = 0 }
+abbrev pub part_in : Option Found → Part
+part_in (Some (InCpu from to)) = record { block = 1; offset = from; length = to - from }
+part_in (Some (InParent from to)) = record { block = 2; offset = from; length = to - from }
+part_in None = record { block = 0; offset = 0; length = 0 }
 
 -- the reason, "0 when it is found", and the part
 unfoldable pub find_property : List ℕ → List ℕ → List ℕ → List ℕ → Outcome Part

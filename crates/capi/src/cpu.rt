@@ -31,25 +31,21 @@ pub fn yebkuzan_find_property(
     ensures { property_outcome_c result
         ≡ find_property cpu.now parent.now strings.now name.now }
 {
-    let looked = lookup::look_up(cpu, parent, strings, name);
-    let refusal = looked.refusal;
-    let number = refusal::number(refusal);
-    let found = looked.found;
-    match found {
-        Found::InCpu { from, to } => YebkuzanProperty {
-            number,
+    match lookup::look_up(cpu, parent, strings, name) {
+        Ok(Found::InCpu { from, to }) => YebkuzanProperty {
+            number: 0,
             block: CPU_BLOCK,
             offset: from,
             length: to - from,
         },
-        Found::InParent { from, to } => YebkuzanProperty {
-            number,
+        Ok(Found::InParent { from, to }) => YebkuzanProperty {
+            number: 0,
             block: PARENT_BLOCK,
             offset: from,
             length: to - from,
         },
-        Found::Nowhere => YebkuzanProperty {
-            number,
+        Err(refusal) => YebkuzanProperty {
+            number: refusal.into(),
             block: 0,
             offset: 0,
             length: 0,
@@ -61,5 +57,5 @@ pub fn yebkuzan_find_property(
 pub fn yebkuzan_lookup_reason(cpu: &[u8], parent: &[u8], strings: &[u8], name: &[u8]) -> u32
     ensures { result ≡ reason cpu.now parent.now strings.now name.now }
 {
-    refusal::number(lookup::lookup_reason(cpu, parent, strings, name))
+    lookup::lookup_reason(cpu, parent, strings, name).map_or(0, u32::from)
 }

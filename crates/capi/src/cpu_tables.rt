@@ -15,28 +15,28 @@ use answers::{
 pub fn yebkuzan_page_sizes(value: &[u8]) -> YebkuzanSizes
     ensures { sizes_outcome_c result ≡ page_sizes value.now }
 {
-    answers::of_sizes(sizes::page_sizes(value))
+    sizes::page_sizes(value).into()
 }
 
 // The value of `ibm,processor-segment-sizes`: 11, 8, then cell by cell 12, 19; 11 where no cell is a size.
 pub fn yebkuzan_segment_sizes(value: &[u8]) -> YebkuzanSizes
     ensures { sizes_outcome_c result ≡ segment_sizes value.now }
 {
-    answers::of_sizes(sizes::segment_sizes(value))
+    sizes::segment_sizes(value).into()
 }
 
 // The value of `ibm,segment-page-sizes`: 11 for no bytes; descriptor by descriptor 8, 11, 12, 8, 11, 12.
 pub fn yebkuzan_segment_page_sizes(value: &[u8]) -> YebkuzanSegments
     ensures { segments_outcome_c result ≡ segment_pages value.now }
 {
-    answers::of_segments(segments::segment_page_sizes(value))
+    segments::segment_page_sizes(value).into()
 }
 
 // The value of `ibm,processor-radix-AP-encodings`: 11, 8, then cell by cell 12, 19.
 pub fn yebkuzan_radix_encodings(value: &[u8]) -> YebkuzanRadixEncodings
     ensures { radix_outcome_c result ≡ radix_encodings value.now }
 {
-    answers::of_radix_encodings(radix::radix_encodings(value))
+    radix::radix_encodings(value).into()
 }
 
 // The value of `ibm,pa-features`, in an edition: 15 for an edition other than the two; 11 for no bytes; descriptor by descriptor 11, 12, 11;
@@ -44,19 +44,19 @@ pub fn yebkuzan_radix_encodings(value: &[u8]) -> YebkuzanRadixEncodings
 pub fn yebkuzan_pa_features(value: &[u8], edition: u32) -> YebkuzanPaFeatures
     ensures { pa_outcome_c result ≡ pa_features edition value.now }
 {
-    answers::of_pa_features(attributes::pa_features(value, edition))
+    attributes::pa_features(value, edition).into()
 }
 
 // The value of `ibm,pi-features`: as for `ibm,pa-features`, without an edition.
 pub fn yebkuzan_pi_features(value: &[u8]) -> YebkuzanPiFeatures
     ensures { pi_outcome_c result ≡ pi_features value.now }
 {
-    answers::of_pi_features(attributes::pi_features(value))
+    attributes::pi_features(value).into()
 }
 
 // The value of `ibm,extended-bus-frequency`: 11.
 pub fn yebkuzan_bus_frequency(value: &[u8]) -> YebkuzanBusFrequency
     ensures { bus_outcome_c result ≡ bus_frequency value.now }
 {
-    answers::of_bus_frequency(attributes::bus_frequency(value))
+    attributes::bus_frequency(value).into()
 }

@@ -24,28 +24,28 @@ pub fn yebkuzan_well_formed(r: Record) -> u32
 pub fn yebkuzan_permitted(r: Record, level: u32, g: Grants) -> YebkuzanPermitted
     ensures { permitted_outcome_c result ≡ permitted_of r level g }
 {
-    answers::of_permitted(permitted::permitted(r, level, g))
+    permitted::permitted(r, level, g).into()
 }
 
 // The enabled set, from record, level and grants alone: 14, 15.
 pub fn yebkuzan_enable(r: Record, level: u32, g: Grants) -> YebkuzanEnabled
     ensures { enabled_outcome_c result ≡ enable r level g }
 {
-    answers::of_enabled(enabled::enable(r, level, g))
+    enabled::enable(r, level, g).into()
 }
 
 // The reach table of a record: 14.
 pub fn yebkuzan_reach_table(r: Record) -> YebkuzanReach
     ensures { reach_outcome_c result ≡ reach_of r }
 {
-    answers::of_reach(reach::reach_table(r))
+    reach::reach_table(r).into()
 }
 
 // The enabled set by the rows of a table that is handed in: 14, 15.
 pub fn yebkuzan_enable_by_table(r: Record, table: Rows, level: u32, g: Grants) -> YebkuzanEnabled
     ensures { enabled_outcome_c result ≡ enable_by_table r table.words level g }
 {
-    answers::of_enabled(reach::enable_by_table(r, table, level, g))
+    reach::enable_by_table(r, table, level, g).into()
 }
 
 // The chain of a feature that is left out, a byte a position, into the front of a lent buffer: 14, 15, 16, 17, 18.
@@ -59,12 +59,12 @@ pub fn yebkuzan_chain(
     ensures result_value { written_outcome_c result ≡ chain_of r level g position (length out.old) }
     ensures out_after { out.new ≡ after_chain r level g position out.old }
 {
-    answers::of_chain(chain::chain(r, level, g, position, out))
+    chain::chain(r, level, g, position, out).into()
 }
 
 // The capability words, HFSCR and FSCR of a record at a level under grants: 14, 15.
 pub fn yebkuzan_words(r: Record, level: u32, g: Grants) -> YebkuzanWords
     ensures { words_outcome_c result ≡ words_answer r level g }
 {
-    answers::of_words(words::words(r, level, g))
+    words::words(r, level, g).into()
 }

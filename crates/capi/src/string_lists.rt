@@ -9,5 +9,5 @@ use answers::YebkuzanStringPlace;
 pub fn yebkuzan_string_place(list: &[u8], text: &[u8]) -> YebkuzanStringPlace
     ensures { string_place_outcome_c result ≡ place_outcome (string_place list.now text.now) }
 {
-    answers::of_string_place(stringlist::string_place(list, text))
+    stringlist::string_place(list, text).into()
 }

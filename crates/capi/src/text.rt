@@ -9,7 +9,7 @@ use answers::{YebkuzanUnit, YebkuzanWritten};
 pub fn yebkuzan_read_unit(text: &[u8]) -> YebkuzanUnit
     ensures { unit_outcome_c result ≡ read_unit text.now }
 {
-    answers::of_unit(unit::read_unit(text))
+    unit::read_unit(text).into()
 }
 
 // The shortest lower-case text of a unit number, into the front of a lent buffer: 18.
@@ -17,10 +17,14 @@ pub fn yebkuzan_write_unit(unit: u32, out: &mut [u8]) -> YebkuzanWritten
     ensures result_value { written_outcome_c result ≡ write_unit unit (length out.old) }
     ensures out_after { out.new ≡ after_unit unit out.old }
 {
-    let written = unit::write_unit(unit, out);
-    let refusal = written.refusal;
-    YebkuzanWritten {
-        number: refusal::number(refusal),
-        length: written.length as u32,
+    match unit::write_unit(unit, out) {
+        Ok(length) => YebkuzanWritten {
+            number: 0,
+            length: length as u32,
+        },
+        Err(refusal) => YebkuzanWritten {
+            number: refusal.into(),
+            length: 0,
+        },
     }
 }

@@ -18,12 +18,16 @@ pub struct YebkuzanRead {
 pub fn yebkuzan_read(tree: &[u8]) -> YebkuzanRead
     ensures { read_outcome_c result ≡ read_record tree.now }
 {
-    let read = reader::read_record(tree);
-    let refusal = read.refusal;
-    let record = read.record;
-    YebkuzanRead {
-        number: refusal::number(refusal),
-        place: read.place as u32,
-        record,
+    match reader::read_record(tree) {
+        Ok(record) => YebkuzanRead {
+            number: 0,
+            place: 0,
+            record,
+        },
+        Err(refused) => YebkuzanRead {
+            number: refused.refusal.into(),
+            place: refused.place as u32,
+            record: reader::no_features(),
+        },
     }
 }
