@@ -17,45 +17,33 @@ pub(crate) fn put_none(out: &mut impl Write) -> io::Result<()> {
     out.write_all(b" none")
 }
 
-pub(crate) fn put_refusal(out: &mut impl Write, refusal: Refusal) -> io::Result<()> {
-    put_number(out, refusal::number(refusal) as u64)
+// Puts the number of an outcome, and answers the value beside it: zeros beside a refusal.
+pub(crate) fn put_outcome<T: Copy + Default>(
+    out: &mut impl Write,
+    outcome: Result<T, Refusal>,
+) -> io::Result<T> {
+    let (number, value) = answers::numbered(outcome);
+    put_number(out, number.into())?;
+    Ok(value)
 }
 
-// Starts a line: its kind and the refusal number.
-pub(crate) fn put_start(out: &mut impl Write, kind: u8, refusal: Refusal) -> io::Result<()> {
-    let text = [kind];
-    out.write_all(&text)?;
-    put_refusal(out, refusal)
+// Starts a line: its kind, and an outcome.
+pub(crate) fn put_start<T: Copy + Default>(
+    out: &mut impl Write,
+    kind: u8,
+    outcome: Result<T, Refusal>,
+) -> io::Result<T> {
+    out.write_all(&[kind])?;
+    put_outcome(out, outcome)
 }
 
-// Puts bytes as numbers.
-pub(crate) fn put_bytes(out: &mut impl Write, bytes: &[u8]) -> io::Result<()> {
-    for byte in bytes {
-        put_number(out, wide(*byte))?;
+// Puts bytes, cells or words as numbers.
+pub(crate) fn put_numbers<T: Copy + Into<u64>>(
+    out: &mut impl Write,
+    numbers: &[T],
+) -> io::Result<()> {
+    for number in numbers {
+        put_number(out, (*number).into())?;
     }
     Ok(())
-}
-
-// Puts cells as numbers.
-pub(crate) fn put_cells(out: &mut impl Write, cells: &[u32]) -> io::Result<()> {
-    for cell in cells {
-        put_number(out, wider(*cell))?;
-    }
-    Ok(())
-}
-
-// Puts words as numbers.
-pub(crate) fn put_words(out: &mut impl Write, words: &[u64]) -> io::Result<()> {
-    for word in words {
-        put_number(out, *word)?;
-    }
-    Ok(())
-}
-
-fn wide(x: u8) -> u64 {
-    x as u64
-}
-
-fn wider(x: u32) -> u64 {
-    x as u64
 }

@@ -1,179 +1,31 @@
-// What is asked of the resolver, read from the bytes of a vector. Each `_at` function takes a place in the vector and
-// answers the place behind what it read: `NOWHERE`, if the vector has something else there.
-ghost use Rattle.std.specs.Prelude.{◌<◌, ◌≤◌};
+// What is asked of the resolver, read from the bytes of a vector.
+ghost use Rattle.std.specs.Prelude.{◌≤◌, IfSome};
 
 use permitted::Grants;
 use positions::Set;
-use record::{Feature, MOST_DEPENDENCIES, MOST_FEATURES, Record, SLOTS};
+use record::{Feature, MOST_DEPENDENCIES, MOST_FEATURES, Record};
 use tables::{Rows, TABLE_WORDS};
-
-pub(crate) const NOWHERE: usize = usize::MAX;
-
-const FEATURE_NUMBERS: usize = 11;
 
 // 2^57: a number below it has room for seven bits more.
 const SEVEN_LEFT: u64 = 0x200000000000000;
 
+// A place in a vector that moves on with what is read; none, once the vector had something else there. Numbers read at no place are 0.
 #[derive(Clone, Copy)]
-pub(crate) struct Number {
-    pub value: u64,
-    pub next: usize,
+pub(crate) struct Cursor {
+    at: Option<usize>,
 }
 
-#[derive(Clone, Copy)]
-pub(crate) struct RecordRead {
-    pub record: Record,
-    pub next: usize,
-}
-
-#[derive(Clone, Copy)]
-struct FeatureRead {
-    feature: Feature,
-    next: usize,
-}
-
-// A record with a level and grants.
+// A level and grants, asked of a record.
 #[derive(Clone, Copy)]
 pub(crate) struct Asked {
     pub record: Record,
     pub level: u32,
     pub grants: Grants,
-    pub next: usize,
-}
-
-#[derive(Clone, Copy)]
-pub(crate) struct RowsRead {
-    pub rows: Rows,
-    pub next: usize,
-}
-
-fn wide(x: u8) -> u64
-    ensures { result < 256 }
-{
-    x as u64
-}
-
-// A number: seven bits a byte, the highest first, with the top bit set in all bytes but the last.
-pub(crate) fn number_at(value: &[u8], from: usize) -> Number {
-    let mut number: u64 = 0;
-    for at in from..value.len() {
-        let byte = wide(value[at]);
-        number = number % SEVEN_LEFT * 128 + byte % 128;
-        if byte < 128 {
-            return Number {
-                value: number,
-                next: at + 1,
-            };
-        }
-    }
-    Number {
-        value: 0,
-        next: NOWHERE,
-    }
 }
 
 // The lowest 32 bits of a number.
 pub(crate) fn narrow(number: u64) -> u32 {
     (number % 0x100000000) as u32
-}
-
-fn feature_at(value: &[u8], from: usize) -> FeatureRead {
-    let mut numbers: [u32; FEATURE_NUMBERS] = [0; FEATURE_NUMBERS];
-    let mut at = from;
-    for i in 0..FEATURE_NUMBERS {
-        let number = number_at(value, at);
-        numbers[i] = narrow(number.value);
-        at = number.next;
-    }
-    FeatureRead {
-        feature: feature_of(numbers),
-        next: at,
-    }
-}
-
-fn feature_of(numbers: [u32; FEATURE_NUMBERS]) -> Feature {
-    Feature {
-        offset: numbers[0],
-        given: numbers[1],
-        isa: numbers[2],
-        usable_privilege: numbers[3],
-        hv_support: numbers[4],
-        os_support: numbers[5],
-        hfscr_bit_nr: numbers[6],
-        fscr_bit_nr: numbers[7],
-        hwcap_bit_nr: numbers[8],
-        phandle: numbers[9],
-        dependencies: numbers[10],
-    }
-}
-
-// The record with this many slots of a position, from the first on.
-fn slots_at(value: &[u8], from: usize, record: Record, position: usize, many: usize) -> RecordRead
-    requires position_bound { position < 64 }
-    requires many_bound { many ≤ 16 }
-{
-    let mut later = record;
-    let mut at = from;
-    for j in 0..many {
-        let number = number_at(value, at);
-        later.slots[MOST_DEPENDENCIES * position + j] = (number.value % 65536) as u16;
-        at = number.next;
-    }
-    RecordRead {
-        record: later,
-        next: at,
-    }
-}
-
-fn no_row(record: Record) -> RecordRead {
-    RecordRead {
-        record,
-        next: NOWHERE,
-    }
-}
-
-// The record with one more row: a position, its feature, and some of its slots.
-fn row_at(value: &[u8], from: usize, record: Record) -> RecordRead {
-    let position = number_at(value, from);
-    if MOST_FEATURES as u64 <= position.value {
-        return no_row(record);
-    }
-    let read = feature_at(value, position.next);
-    let many = number_at(value, read.next);
-    if (MOST_DEPENDENCIES as u64) < many.value {
-        return no_row(record);
-    }
-    let place = position.value as usize;
-    let feature = read.feature;
-    let mut later = record;
-    later.features[place] = feature;
-    slots_at(value, many.next, later, place, many.value as usize)
-}
-
-// A record whose features and slots are all zero.
-fn bare_record(isa: u32, count: u32) -> Record {
-    let none = feature_of([0; FEATURE_NUMBERS]);
-    Record {
-        isa,
-        count,
-        features: [none; MOST_FEATURES],
-        slots: [0; SLOTS],
-    }
-}
-
-// A record: its isa, its count, how many rows it has, and these.
-pub(crate) fn record_at(value: &[u8], from: usize) -> RecordRead {
-    let isa = number_at(value, from);
-    let count = number_at(value, isa.next);
-    let rows = number_at(value, count.next);
-    let mut read = RecordRead {
-        record: bare_record(narrow(isa.value), narrow(count.value)),
-        next: rows.next,
-    };
-    for _ in 0..rows.value {
-        read = row_at(value, read.next, read.record);
-    }
-    read
 }
 
 fn set_of(mask: u64) -> Set {
@@ -182,38 +34,115 @@ fn set_of(mask: u64) -> Set {
     set
 }
 
-// A level and grants, asked of a record.
-pub(crate) fn asked_at(value: &[u8], from: usize, record: Record) -> Asked {
-    let level = number_at(value, from);
-    let hypervisor = number_at(value, level.next);
-    let system = number_at(value, hypervisor.next);
-    let hfscr = number_at(value, system.next);
-    let fscr = number_at(value, hfscr.next);
-    let grants = Grants {
-        hypervisor: set_of(hypervisor.value),
-        system: set_of(system.value),
-        hfscr: hfscr.value,
-        fscr: fscr.value,
-    };
-    Asked {
-        record,
-        level: narrow(level.value),
-        grants,
-        next: fscr.next,
+impl Cursor {
+    pub(crate) fn new() -> Cursor {
+        Cursor { at: Some(0) }
     }
-}
 
-// The rows of a table.
-pub(crate) fn rows_at(value: &[u8], from: usize) -> RowsRead {
-    let mut words: [u64; TABLE_WORDS] = [0; TABLE_WORDS];
-    let mut at = from;
-    for i in 0..TABLE_WORDS {
-        let number = number_at(value, at);
-        words[i] = number.value;
-        at = number.next;
+    // Whether all of a vector is read, and nothing else stood in it.
+    pub(crate) fn is_at_end(self, value: &[u8]) -> bool {
+        self.at == Some(value.len())
     }
-    RowsRead {
-        rows: Rows { words },
-        next: at,
+
+    // A number: seven bits a byte, the highest first, with the top bit set in all bytes but the last.
+    pub(crate) fn number(&mut self, value: &[u8]) -> u64 {
+        let Some(from) = self.at else {
+            return 0;
+        };
+        let mut number: u64 = 0;
+        for at in from..value.len() {
+            let byte = u64::from(value[at]);
+            number = number % SEVEN_LEFT * 128 + byte % 128;
+            if byte < 128 {
+                self.at = Some(at + 1);
+                return number;
+            }
+        }
+        self.at = None;
+        0
+    }
+
+    // The bytes of this many, of a vector of `room` bytes: from where to where, if they fit.
+    pub(crate) fn bytes(&mut self, length: u64, room: usize) -> Option<(usize, usize)>
+        ensures { IfSome result (λ part. (part.0 ≤ part.1) × (part.1 ≤ room)) }
+    {
+        let start = self.at?;
+        if room < start || ((room - start) as u64) < length {
+            self.at = None;
+            return None;
+        }
+        let end = start + length as usize;
+        self.at = Some(end);
+        Some((start, end))
+    }
+
+    fn feature(&mut self, value: &[u8]) -> Feature {
+        Feature {
+            offset: narrow(self.number(value)),
+            given: narrow(self.number(value)),
+            isa: narrow(self.number(value)),
+            usable_privilege: narrow(self.number(value)),
+            hv_support: narrow(self.number(value)),
+            os_support: narrow(self.number(value)),
+            hfscr_bit_nr: narrow(self.number(value)),
+            fscr_bit_nr: narrow(self.number(value)),
+            hwcap_bit_nr: narrow(self.number(value)),
+            phandle: narrow(self.number(value)),
+            dependencies: narrow(self.number(value)),
+        }
+    }
+
+    // One more row of a record: a position, its feature, and some of its slots, from the first on.
+    fn row(&mut self, value: &[u8], record: &mut Record) {
+        let position = self.number(value);
+        if MOST_FEATURES as u64 <= position {
+            self.at = None;
+            return;
+        }
+        let feature = self.feature(value);
+        let many = self.number(value);
+        if (MOST_DEPENDENCIES as u64) < many {
+            self.at = None;
+            return;
+        }
+        record.features[position as usize] = feature;
+        for j in 0..many as usize {
+            let slot = self.number(value) % 65536;
+            record.slots[MOST_DEPENDENCIES * position as usize + j] = slot as u16;
+        }
+    }
+
+    // A record: its isa, its count, how many rows it has, and these; zeros in what no row gives.
+    pub(crate) fn record(&mut self, value: &[u8]) -> Record {
+        let mut record = reader::no_features();
+        record.isa = narrow(self.number(value));
+        record.count = narrow(self.number(value));
+        for _ in 0..self.number(value) {
+            self.row(value, &mut record);
+        }
+        record
+    }
+
+    // A level and grants, asked of a record.
+    pub(crate) fn asked(&mut self, value: &[u8], record: Record) -> Asked {
+        Asked {
+            record,
+            level: narrow(self.number(value)),
+            grants: Grants {
+                hypervisor: set_of(self.number(value)),
+                system: set_of(self.number(value)),
+                hfscr: self.number(value),
+                fscr: self.number(value),
+            },
+        }
+    }
+
+    // The rows of a table.
+    pub(crate) fn rows(&mut self, value: &[u8]) -> Rows {
+        let mut words: [u64; TABLE_WORDS] = [0; TABLE_WORDS];
+        for word in words.iter_mut() {
+            *word = self.number(value);
+        }
+        Rows { words }
     }
 }

@@ -1,7 +1,7 @@
 // The kind of vectors for feature records: a tree is read, and its record put on one line.
 ghost use Rattle.std.specs.Prelude.{◌<◌};
 
-use crate::line::{put_cells, put_number, put_start};
+use crate::line::{put_number, put_numbers, put_start};
 use record::{Feature, MOST_DEPENDENCIES, MOST_FEATURES, Record, SLOTS};
 use std::io;
 use std::io::Write;
@@ -23,28 +23,12 @@ fn numbers_of(f: Feature) -> [u32; 11] {
     ]
 }
 
-fn wide(x: u16) -> u32 {
-    x as u32
-}
-
 // The slots of the feature at a position.
-fn slots_of(slots: &[u16; SLOTS], position: usize) -> [u32; MOST_DEPENDENCIES]
+fn slots_of(slots: &[u16; SLOTS], position: usize) -> &[u16]
     requires { position < 64 }
 {
-    let mut own: [u32; MOST_DEPENDENCIES] = [0; MOST_DEPENDENCIES];
-    for j in 0..MOST_DEPENDENCIES {
-        own[j] = wide(slots[MOST_DEPENDENCIES * position + j]);
-    }
-    own
-}
-
-fn is_zero(numbers: &[u32]) -> bool {
-    for number in numbers {
-        if *number != 0 {
-            return false;
-        }
-    }
-    true
+    let from = MOST_DEPENDENCIES * position;
+    &slots[from..from + MOST_DEPENDENCIES]
 }
 
 // Puts a position with the numbers of its feature and its slots; nothing, if these are all zero.
@@ -52,35 +36,43 @@ fn put_row(
     out: &mut impl Write,
     position: usize,
     numbers: &[u32],
-    slots: &[u32],
+    slots: &[u16],
 ) -> io::Result<()> {
-    if is_zero(numbers) && is_zero(slots) {
+    if numbers.iter().all(|number| *number == 0) && slots.iter().all(|slot| *slot == 0) {
         return Ok(());
     }
     put_number(out, position as u64)?;
-    put_cells(out, numbers)?;
-    put_cells(out, slots)
+    put_numbers(out, numbers)?;
+    put_numbers(out, slots)
 }
 
 // Puts the rows of all positions.
 fn put_rows(out: &mut impl Write, record: Record) -> io::Result<()> {
     for i in 0..MOST_FEATURES {
-        let numbers = numbers_of(record.features[i]);
-        let slots = slots_of(&record.slots, i);
-        put_row(out, i, &numbers, &slots)?;
+        put_row(
+            out,
+            i,
+            &numbers_of(record.features[i]),
+            slots_of(&record.slots, i),
+        )?;
     }
     Ok(())
 }
 
 // A whole tree: the refusal, its place, the isa, the count, and the rows.
 pub(crate) fn record(out: &mut impl Write, value: &[u8]) -> io::Result<bool> {
-    let read = reader::read_record(value);
-    let refusal = read.refusal;
-    put_start(out, b'r', refusal)?;
-    put_number(out, read.place as u64)?;
-    let record = read.record;
-    put_number(out, record.isa as u64)?;
-    put_number(out, record.count as u64)?;
+    let (outcome, place, record) = match reader::read_record(value) {
+        Ok(record) => (Ok(()), 0, record),
+        Err(refused) => (
+            Err(refused.refusal),
+            refused.place,
+            reader::no_features(),
+        ),
+    };
+    put_start(out, b'r', outcome)?;
+    put_number(out, place as u64)?;
+    put_number(out, record.isa.into())?;
+    put_number(out, record.count.into())?;
     put_rows(out, record)?;
     Ok(true)
 }

@@ -1,121 +1,93 @@
 // The kinds of vectors for what a record permits and enables. Each public function puts one line and answers whether the bytes are a vector.
-// Each `put_` function over bytes answers the place behind what it read.
-ghost use Rattle.std.specs.Prelude.{◌≤◌};
-
-use crate::line::{end_line, put_bytes, put_number, put_refusal, put_start, put_words};
-use crate::queries::{Asked, NOWHERE, asked_at, narrow, number_at, record_at, rows_at};
+use crate::line::{end_line, put_number, put_numbers, put_outcome, put_start};
+use crate::queries::{Asked, Cursor, narrow};
 use enabled::Enabled;
 use record::Record;
 use refusal::Refusal;
 use std::io;
 use std::io::Write;
 
-fn form_of(record: Record) -> Refusal {
+fn form_of(record: Record) -> Result<(), Refusal> {
     if form::well_formed(record) {
-        return Refusal::None;
+        Ok(())
+    } else {
+        Err(Refusal::RecordForm)
     }
-    Refusal::RecordForm
 }
 
 fn put_permitted(out: &mut impl Write, asked: Asked) -> io::Result<()> {
     let told = permitted::permitted(asked.record, asked.level, asked.grants);
-    let refusal = told.refusal;
-    put_refusal(out, refusal)?;
-    let set = told.set;
-    put_words(out, &set.words)
+    let set = put_outcome(out, told)?;
+    put_numbers(out, &set.words)
 }
 
-fn put_enabled(out: &mut impl Write, told: Enabled) -> io::Result<()> {
-    let refusal = told.refusal;
-    put_refusal(out, refusal)?;
-    let set = told.set;
-    put_words(out, &set.words)?;
-    put_number(out, told.count as u64)
+fn put_enabled(out: &mut impl Write, told: Result<Enabled, Refusal>) -> io::Result<()> {
+    let enabled = put_outcome(out, told)?;
+    put_numbers(out, &enabled.set.words)?;
+    put_number(out, enabled.count.into())
 }
 
 fn put_register_words(out: &mut impl Write, asked: Asked) -> io::Result<()> {
     let told = words::words(asked.record, asked.level, asked.grants);
-    let refusal = told.refusal;
-    put_refusal(out, refusal)?;
-    put_number(out, told.hwcap_first as u64)?;
-    put_number(out, told.hwcap_second as u64)?;
-    put_number(out, told.hfscr)?;
-    put_number(out, told.fscr)
+    let words = put_outcome(out, told)?;
+    put_numbers(out, &[words.hwcap_first, words.hwcap_second])?;
+    put_numbers(out, &[words.hfscr, words.fscr])
 }
 
 // Kind `e`: level and grants. Puts what is permitted, what is enabled, and the words.
-fn put_sets(out: &mut impl Write, asked: Asked) -> io::Result<usize> {
+fn put_sets(out: &mut impl Write, asked: Asked) -> io::Result<()> {
     put_permitted(out, asked)?;
     put_enabled(
         out,
         enabled::enable(asked.record, asked.level, asked.grants),
     )?;
-    put_register_words(out, asked)?;
-    Ok(asked.next)
+    put_register_words(out, asked)
 }
 
 // Kind `b`: level, grants and rows.
-fn put_by_table(out: &mut impl Write, asked: Asked, value: &[u8]) -> io::Result<usize> {
-    let read = rows_at(value, asked.next);
-    put_enabled(
-        out,
-        reach::enable_by_table(asked.record, read.rows, asked.level, asked.grants),
-    )?;
-    Ok(read.next)
-}
-
-fn put_chain(
+fn put_by_table(
     out: &mut impl Write,
     asked: Asked,
-    position: u32,
-    buffer: &mut [u8],
+    value: &[u8],
+    cursor: &mut Cursor,
 ) -> io::Result<()> {
-    let told = chain::chain(asked.record, asked.level, asked.grants, position, buffer);
-    let refusal = told.refusal;
-    put_refusal(out, refusal)?;
-    put_number(out, told.length as u64)?;
-    put_bytes(out, buffer)
-}
-
-// The end of a part of this length; `NOWHERE`, if it does not fit.
-fn end_of(start: usize, length: u64, room: usize) -> usize
-    ensures { start ≤ result }
-{
-    if room < start {
-        return NOWHERE;
-    }
-    if ((room - start) as u64) < length {
-        return NOWHERE;
-    }
-    start + length as usize
+    let rows = cursor.rows(value);
+    put_enabled(
+        out,
+        reach::enable_by_table(asked.record, rows, asked.level, asked.grants),
+    )
 }
 
 // Puts the answer to a query of position and buffer. The buffer is the vector's own bytes.
-fn put_chain_at(
+fn put_chain(
     out: &mut impl Write,
     asked: Asked,
     value: &mut [u8],
-    from: usize,
-) -> io::Result<usize> {
-    let position = number_at(value, from);
-    let length = number_at(value, position.next);
-    let start = length.next;
-    let end = end_of(start, length.value, value.len());
-    if value.len() < end {
-        return Ok(NOWHERE);
-    }
-    put_chain(out, asked, narrow(position.value), &mut value[start..end])?;
-    Ok(end)
+    cursor: &mut Cursor,
+) -> io::Result<()> {
+    let position = narrow(cursor.number(value));
+    let length = cursor.number(value);
+    let Some((start, end)) = cursor.bytes(length, value.len()) else {
+        return Ok(());
+    };
+    let buffer = &mut value[start..end];
+    let told = chain::chain(asked.record, asked.level, asked.grants, position, buffer);
+    let length = put_outcome(out, told)?;
+    put_number(out, length.into())?;
+    put_numbers(out, buffer)
 }
 
 // Kind `c`: level, grants, and queries of position and buffer.
-fn put_chains(out: &mut impl Write, asked: Asked, value: &mut [u8]) -> io::Result<usize> {
-    let queries = number_at(value, asked.next);
-    let mut at = queries.next;
-    for _ in 0..queries.value {
-        at = put_chain_at(out, asked, value, at)?;
+fn put_chains(
+    out: &mut impl Write,
+    asked: Asked,
+    value: &mut [u8],
+    cursor: &mut Cursor,
+) -> io::Result<()> {
+    for _ in 0..cursor.number(value) {
+        put_chain(out, asked, value, cursor)?;
     }
-    Ok(at)
+    Ok(())
 }
 
 // Puts the answer to the query at a place.
@@ -124,37 +96,25 @@ fn put_query(
     kind: u8,
     record: Record,
     value: &mut [u8],
-    from: usize,
-) -> io::Result<usize> {
-    let asked = asked_at(value, from, record);
+    cursor: &mut Cursor,
+) -> io::Result<()> {
+    let asked = cursor.asked(value, record);
     match kind {
         b'e' => put_sets(out, asked),
-        b'b' => put_by_table(out, asked, value),
-        _ => put_chains(out, asked, value),
+        b'b' => put_by_table(out, asked, value, cursor),
+        _ => put_chains(out, asked, value, cursor),
     }
 }
 
-// Puts the answers to the queries from a place on: how many, and these.
-fn put_queries(
-    out: &mut impl Write,
-    kind: u8,
-    record: Record,
-    value: &mut [u8],
-    from: usize,
-) -> io::Result<usize> {
-    let queries = number_at(value, from);
-    let mut at = queries.next;
-    for _ in 0..queries.value {
-        at = put_query(out, kind, record, value, at)?;
-    }
-    Ok(at)
-}
-
-// Kinds `e`, `b` and `c`: a record, and queries. What is read before the bytes go wrong is put on a line of its own.
+// Kinds `e`, `b` and `c`: a record, and queries: how many, and these. What is read before the bytes go wrong is put on a line of its own.
 pub(crate) fn queries(out: &mut impl Write, kind: u8, value: &mut [u8]) -> io::Result<bool> {
-    let read = record_at(value, 0);
-    put_start(out, kind, form_of(read.record))?;
-    if put_queries(out, kind, read.record, value, read.next)? == value.len() {
+    let mut cursor = Cursor::new();
+    let record = cursor.record(value);
+    put_start(out, kind, form_of(record))?;
+    for _ in 0..cursor.number(value) {
+        put_query(out, kind, record, value, &mut cursor)?;
+    }
+    if cursor.is_at_end(value) {
         return Ok(true);
     }
     end_line(out)?;
@@ -163,14 +123,12 @@ pub(crate) fn queries(out: &mut impl Write, kind: u8, value: &mut [u8]) -> io::R
 
 // Kind `n`: a record, whose reach table is put.
 pub(crate) fn reach_table(out: &mut impl Write, value: &[u8]) -> io::Result<bool> {
-    let read = record_at(value, 0);
-    if read.next != value.len() {
+    let mut cursor = Cursor::new();
+    let record = cursor.record(value);
+    if !cursor.is_at_end(value) {
         return Ok(false);
     }
-    let told = reach::reach_table(read.record);
-    let refusal = told.refusal;
-    let rows = told.rows;
-    put_start(out, b'n', refusal)?;
-    put_words(out, &rows.words)?;
+    let rows = put_start(out, b'n', reach::reach_table(record))?;
+    put_numbers(out, &rows.words)?;
     Ok(true)
 }

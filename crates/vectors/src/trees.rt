@@ -1,16 +1,22 @@
 // The kinds of vectors for trees, for blocks of properties and for lists of strings. Each function puts one line and answers whether the bytes are a vector.
 use crate::line::{put_number, put_start};
 use lookup::Found;
-use positions::Position;
 use refusal::Refusal;
 use std::io;
 use std::io::Write;
+use walk::Containers;
 
 // The three lengths before the parts of a lookup.
 const LENGTHS: usize = 12;
 
 // The length before a list of strings.
 const LENGTH: usize = 4;
+
+const NO_CONTAINERS: Containers = Containers {
+    count: 0,
+    first: 0,
+    second: 0,
+};
 
 // Where the CPU node's block of a lookup ends, its parent's, and the strings block.
 #[derive(Clone, Copy)]
@@ -20,44 +26,41 @@ struct Ends {
     strings: usize,
 }
 
-// A whole tree: the refusal, its place, and the containers.
+// A whole tree: the refusal, its place, and the containers; none beside a refusal.
 pub(crate) fn tree(out: &mut impl Write, value: &[u8]) -> io::Result<bool> {
-    let checked = walk::check_tree(value);
-    let refusal = checked.refusal;
-    put_start(out, b't', refusal)?;
-    put_number(out, checked.place as u64)?;
-    let layout = checked.layout;
-    let containers = layout.containers;
-    put_number(out, containers.count as u64)?;
+    let (outcome, place, containers) = match walk::check_tree(value) {
+        Ok(layout) => (Ok(()), 0, layout.containers),
+        Err(refused) => (Err(refused.refusal), refused.place, NO_CONTAINERS),
+    };
+    put_start(out, b't', outcome)?;
+    put_number(out, place as u64)?;
+    put_number(out, containers.count.into())?;
     put_number(out, containers.first as u64)?;
     put_number(out, containers.second as u64)?;
     Ok(true)
 }
 
-fn put_found(out: &mut impl Write, which: u64, from: usize) -> io::Result<()> {
-    put_number(out, which)?;
-    put_number(out, from as u64)
-}
-
-// The block in which a property is found, and its place there.
-fn put_place(out: &mut impl Write, found: Found) -> io::Result<()> {
+// The block in which a property is found, and its place there; zeros where it is not found.
+fn block_and_place(found: Option<Found>) -> (u64, usize) {
     match found {
-        Found::InCpu { from, to: _ } => put_found(out, 1, from),
-        Found::InParent { from, to: _ } => put_found(out, 2, from),
-        Found::Nowhere => put_found(out, 0, 0),
+        Some(Found::InCpu { from, .. }) => (1, from),
+        Some(Found::InParent { from, .. }) => (2, from),
+        None => (0, 0),
     }
 }
 
-fn looked_up<'a>(
+fn looked_up(
     out: &mut impl Write,
-    cpu: &'a [u8],
-    parent: &'a [u8],
+    cpu: &[u8],
+    parent: &[u8],
     strings: &[u8],
     name: &[u8],
 ) -> io::Result<bool> {
-    let refusal = lookup::lookup_reason(cpu, parent, strings, name);
-    put_start(out, b'l', refusal)?;
-    put_place(out, lookup::find_property(cpu, parent, strings, name))?;
+    let reason = lookup::lookup_reason(cpu, parent, strings, name);
+    put_start(out, b'l', reason.map_or(Ok(()), Err))?;
+    let (block, place) = block_and_place(lookup::find_property(cpu, parent, strings, name));
+    put_number(out, block)?;
+    put_number(out, place as u64)?;
     let part = lookup::property_part(cpu, parent, strings, name);
     put_number(out, part.len() as u64)?;
     Ok(true)
@@ -76,13 +79,7 @@ fn ends_of(value: &[u8]) -> Ends {
 
 // The bytes from a place to another; none, if these are no places of the vector.
 fn part(value: &[u8], from: usize, to: usize) -> &[u8] {
-    if to < from {
-        return &value[..0];
-    }
-    if value.len() < to {
-        return &value[..0];
-    }
-    &value[from..to]
+    value.get(from..to).unwrap_or(&[])
 }
 
 // A lookup: three lengths, then the CPU node's block, its parent's, the strings block, and the name sought. Fewer bytes are no vector.
@@ -100,16 +97,9 @@ pub(crate) fn property_lookup(out: &mut impl Write, value: &[u8]) -> io::Result<
 
 // The place at which a text stands in a list.
 fn put_string_place(out: &mut impl Write, list: &[u8], text: &[u8]) -> io::Result<()> {
-    match stringlist::string_place(list, text) {
-        Position::At(place) => {
-            put_start(out, b'm', Refusal::None)?;
-            put_number(out, place as u64)
-        }
-        Position::Nowhere => {
-            put_start(out, b'm', Refusal::NotFound)?;
-            put_number(out, 0)
-        }
-    }
+    let found = stringlist::string_place(list, text);
+    let place = put_start(out, b'm', found.ok_or(Refusal::NotFound))?;
+    put_number(out, place as u64)
 }
 
 // A text in a list of strings: the list's length, the list, and the text sought. Fewer bytes are no vector.
