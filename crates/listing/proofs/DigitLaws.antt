@@ -1,15 +1,19 @@
 -- Laws of digits: how many a number has, and how they are put from the last to the first. Assumes nothing.
-use mathlib.Core.Path.{◌≡◌, refl, sym, ap, ap₂, subst, ◌∙◌}
+use mathlib.Core.Path.{◌≡◌, refl, sym, ap, ap₂, ◌∙◌}
 use mathlib.Core.Bool.{Bool, true, false}
 use mathlib.Core.List.{List, [], ◌∷◌, ◌++◌, append_assoc, append-nil}
 use Prim.Native.Nat.{ℕ, zero, suc, ◌+◌, ◌-◌, ◌*◌, ◌^◌, ◌/◌, ◌%◌, ◌<◌, ◌≤◌}
 use native.Mathlib.Omega.{arith}
 use native.Mathlib.Decide.{dec_lt}
 use native.Mathlib.Nat.{pow-suc}
+use native.Mathlib.Numerals.{add-one}
 use borrow.Author.Tests.{ltb-false, lt-ltb, le-ltb}
 use lib.Dec.{ltb}
 use lib.ListN.{length, length-append, set}
-use Rattle.characters.specs.Characters.{hex_digit}
+use Rattle.std.specs.Fmt.{decimal as std_decimal}
+use Rattle.std.proofs.lemmas.Fmt.{decimal_by_steps}
+use Rattle.characters.proofs.Table.{agree}
+use Rattle.characters.specs.Characters.{hex_digit, run}
 use Rattle.cells.specs.Buffer.{written}
 use Rattle.cells.proofs.Buffer.{written_none, written-before, length-written}
 use Rattle.listing.specs.Digits.{last_digits, places_within, decimal_places, decimal}
@@ -66,8 +70,11 @@ pub length-decimal : (n : ℕ) → length (decimal n) ≡ decimal_places n
 unfolding decimal
 length-decimal n = length_digits 10 (decimal_places n) n
 
-pub decimal-most : (d n : ℕ) → n < 10 ^ suc d → length (decimal n) ≤ suc d
-decimal-most d n h = omega (arith, length-decimal n, places-most d n h)
+pub decimal_most : (d n : ℕ) → n < 10 ^ suc d → length (decimal n) ≤ suc d
+decimal_most d n h = omega (arith, length-decimal n, places-most d n h)
+
+pub decimal_short : (n : ℕ) → n < 2 ^ 64 → length (decimal n) ≤ 20
+decimal_short n h = decimal_most 19 n (omega arith)
 
 -- the digits from a place on stand, and those of what is left of the number come before it
 pub record Spelling (base many number at : ℕ) (old line : List ℕ) (rest place : ℕ) : Type 0 where
@@ -79,9 +86,9 @@ pub record Spelling (base many number at : ℕ) (old line : List ℕ) (rest plac
   pub holds : line ≡ written old place back
   pub fits : at + many ≤ length old
 
-pub spell-begins : (base many number at : ℕ) (old : List ℕ) → at + many ≤ length old
+pub spell_begins : (base many number at : ℕ) (old : List ℕ) → at + many ≤ length old
     → Spelling base many number at old old number (at + many)
-spell-begins base many number at old h = record {
+spell_begins base many number at old h = record {
   left = many;
   back = [];
   here = refl;
@@ -92,16 +99,16 @@ spell-begins base many number at old h = record {
 }
 
 module _ {base many number at : ℕ} {old line : List ℕ} {rest place : ℕ} (w : Spelling base many number at old line rest place) where
-  pub spell-length : length line ≡ length old
-  spell-length = ap length w.holds ∙ length-written old place w.back (omega (arith, w.here, w.count, w.fits))
+  pub spell_length : length line ≡ length old
+  spell_length = ap length w.holds ∙ length-written old place w.back (omega (arith, w.here, w.count, w.fits))
 
-  pub spell-low : place ≤ length old
-  spell-low = omega (arith, w.here, w.count, w.fits)
+  pub spell_low : place ≤ length old
+  spell_low = omega (arith, w.here, w.count, w.fits)
 
-  pub spell-more : {b : ℕ} → b ≡ hex_digit (rest % base) → at < place
+  pub spell_more : {b : ℕ} → b ≡ hex_digit (rest % base) → at < place
       → Spelling base many number at old (set line (place - 1) b) (rest / base) (place - 1)
   unfolding last_digits
-  spell-more {b} e h = go w.left w.here w.count w.same
+  spell_more {b} e h = go w.left w.here w.count w.same
     where
       go : (left : ℕ) → place ≡ at + left → left + length w.back ≡ many
           → last_digits base left rest ++ w.back ≡ last_digits base many number
@@ -117,13 +124,13 @@ module _ {base many number at : ℕ} {old line : List ℕ} {rest place : ℕ} (w
             same = sym (append_assoc (last_digits base m (rest / base)) (hex_digit (rest % base) ∷ []) w.back) ∙ s;
             holds =
                 ap₂ (λ (l : List ℕ) (x : ℕ). set l (place - 1) x) (w.holds ∙ ap (λ (k : ℕ). written old k w.back) q) e
-                ∙ written-before old (place - 1) (hex_digit (rest % base)) w.back (omega (arith, spell-low));
+                ∙ written-before old (place - 1) (hex_digit (rest % base)) w.back (omega (arith, spell_low));
             fits = w.fits;
           }
 
-  pub spell-ends : place ≤ at → Put old at (last_digits base many number) line (at + many)
+  pub spell_ends : place ≤ at → Put old at (last_digits base many number) line (at + many)
   unfolding last_digits
-  spell-ends h = go w.left w.here w.count w.same
+  spell_ends h = go w.left w.here w.count w.same
     where
       go : (left : ℕ) → place ≡ at + left → left + length w.back ≡ many
           → last_digits base left rest ++ w.back ≡ last_digits base many number
@@ -135,12 +142,24 @@ module _ {base many number at : ℕ} {old line : List ℕ} {rest place : ℕ} (w
             stands = w.holds ∙ ap₂ (λ (k : ℕ) (l : List ℕ). written old k l) q s;
             reached = omega (arith, length_digits base many number);
             room = omega (arith, length_digits base many number, w.fits);
-            size = spell-length;
+            size = spell_length;
           }
 
--- a number's decimal digits are as many of its last as it has
-pub put-decimal-is : {old new : List ℕ} {at next many : ℕ} (number : ℕ) → many ≡ decimal_places number
-    → Put old at (last_digits 10 many number) new next
-    → Put old at (decimal number) new next
-unfolding decimal
-put-decimal-is {old} {new} {at} {next} number e p = subst (λ (k : ℕ). Put old at (last_digits 10 k number) new next) e p
+-- std's digits of a number are these
+abbrev Same : ℕ → List ℕ → Type 0
+Same n ds = ds ≡ decimal n
+
+digit : (d : ℕ) → d < 10 → 48 + d ≡ hex_digit d
+unfolding run hex_digit
+digit d h = agree (λ (k : ℕ). 48 + k) hex_digit 10 refl d h
+
+one-digit : (n : ℕ) → n < 10 → Same n ((48 + n) ∷ [])
+unfolding decimal last_digits
+one-digit n h = let e : n % 10 ≡ n = omega arith in rw (places-one n h, last_digits, e, digit n h)
+
+digit-more : (n : ℕ) (ds : List ℕ) → 10 ≤ n → Same (n / 10) ds → Same n (ds ++ ((48 + n % 10) ∷ []))
+unfolding decimal last_digits
+digit-more n ds h e = rw (e, places-more n h, add-one, last_digits, digit (n % 10) (omega arith))
+
+pub decimal-is : (n : ℕ) → n < 2 ^ 64 → std_decimal n ≡ decimal n
+decimal-is = decimal_by_steps Same one-digit digit-more

@@ -1,48 +1,44 @@
 -- The lines of a tree, by their number. Assumes nothing.
-use mathlib.Core.Path.{◌≡◌, refl, sym, ap, ap₂, subst, ◌∙◌}
+use mathlib.Core.Path.{◌≡◌, refl, sym, ap, ap₂, ◌∙◌}
 use mathlib.Core.List.{List, [], ◌∷◌, ◌++◌}
 use Prim.Native.Nat.{ℕ, zero, suc, ◌+◌, ◌-◌, ◌<◌, ◌≤◌}
-use native.Mathlib.Nat.{zero-add}
 use native.Mathlib.Omega.{arith}
+use Rattle.std.specs.Prelude.{Ok, Err}
 use lib.Arith.{lt→nleb, le→nltb}
 use lib.Dec.{le→leb, lt→ltb, leb→le}
 use lib.ListN.{length, get_or, take, drop, length-append, get_or-append}
 use lib.Seq.{get_or_at, take_at}
 use Rattle.refusal.specs.Refusal.{Outcome, Placed, answer, refuse, number_of}
+use Rattle.refusal.specs.declared.RefusedAt.{RefusedAt}
+use Rattle.refusal.proofs.Numbers.{numbered as has_number}
 use Rattle.refusal.proofs.Checks.{Stops, Passes, stops, passes, outcome-holds}
 use Rattle.cells.specs.Buffer.{Stays, written}
 use Rattle.cells.specs.Rows.{each}
 use Rattle.cells.proofs.Writing.{refused-leaves, passed-writes, front_fits, call_stays}
 use Rattle.cells.proofs.Rows.{length-each, row-at}
-use Rattle.characters.specs.Characters.{bytes}
-use Rattle.positions.specs.Sets.{member_count}
 use Rattle.record.specs.declared.Record.{Record}
 use Rattle.reading.specs.Reading.{read_record}
 use Rattle.reader.specs.Outcome.{read_outcome}
-use Rattle.reader.specs.declared.Read.{Read}
-use Rattle.listing.specs.Digits.{decimal}
-use Rattle.listing.specs.Listing.{enabled_in, words_in, name_of, line_end, numbered, worded, head_line, state_text, feature_line, words_line, refused_line, record_lines, listing, line_at, line_checks, write_line, after_line, line_outcome}
-use Rattle.listing.specs.declared.LineWritten.{LineWritten}
-use Rattle.listing.specs.Parts.{Put, name_in, IsRead, Composed, none, some}
+use Rattle.listing.specs.Listing.{name_of, head_line, feature_line, words_line, refused_line, record_lines, listing, line_at, line_checks, write_line, after_line}
+use Rattle.listing.specs.declared.Line.{Line}
+use Rattle.listing.specs.Parts.{Puts, name_in, IsRead, Composed, none, some}
+use Rattle.listing.proofs.PutLaws.{put_as}
 use Rattle.listing.proofs.StateLaws.{feature-names}
 
--- a line is not empty
-ends-line : (text : List ℕ) → 0 < length (text ++ line_end)
-ends-line text = omega (arith, length-append text line_end)
-
 -- what a reading answers
-module _ (tree : List ℕ) (x : Read) (q : read_outcome x ≡ read_record tree) {n : ℕ} (e : n ≡ number_of x.refusal) where
-  pub number_is : n ≡ (read_record tree).number
-  number_is = e ∙ ap (λ (o : Placed Record). o.number) q
+pub is-read : {tree : List ℕ} (r : Record) → read_outcome (Ok r) ≡ read_record tree → IsRead tree r
+is-read r q =
+    record { accepted = sym (ap (λ (o : Placed Record). o.number) q); same = sym (ap (λ (o : Placed Record). o.value) q) }
 
-  pub place_is : x.place ≡ (read_record tree).place
+module _ (tree : List ℕ) (e : RefusedAt) (q : read_outcome (Err e) ≡ read_record tree) where
+  pub number_is : number_of e.refusal ≡ (read_record tree).number
+  number_is = ap (λ (o : Placed Record). o.number) q
+
+  pub place_is : e.place ≡ (read_record tree).place
   place_is = ap (λ (o : Placed Record). o.place) q
 
-  pub is-refused : (n ≡ 0 → ⊥) → (read_record tree).number ≡ 0 → ⊥
-  is-refused ne z = ne (number_is ∙ z)
-
-  pub is_read : n ≡ 0 → IsRead tree x.«record»
-  is_read z = record { accepted = sym number_is ∙ z; same = sym (ap (λ (o : Placed Record). o.value) q) }
+  pub is-refused : (read_record tree).number ≡ 0 → ⊥
+  is-refused z = has_number e.refusal (number_is ∙ z)
 
 -- the lines of a refused tree
 module _ (tree : List ℕ) (refused : (read_record tree).number ≡ 0 → ⊥) where
@@ -60,19 +56,16 @@ module _ (tree : List ℕ) (refused : (read_record tree).number ≡ 0 → ⊥) w
       go zero f = absurd (f refl)
       go (suc m) f = refl
 
-  pub refused-past : (k : ℕ) (old : List ℕ) → (k ≡ 0 → ⊥) → Composed tree k old old 0
-  refused-past k old ne = none (omega (arith, ap length refused-lines))
+  pub refused-past : {k : ℕ} {old new : Line} → (k ≡ 0 → ⊥) → Composed tree k old new 16
+  refused-past ne = none (omega (arith, ap length refused-lines))
 
-  pub refused-first : {k n p : ℕ} {old new : List ℕ} {next : ℕ} → k ≡ 0 → n ≡ (read_record tree).number → p ≡ (read_record tree).place
-      → Put old 0 (refused_line n p) new next
-      → Composed tree k old new next
-  unfolding line_at refused_line
-  refused-first {k} {n} {p} {old} {new} {next} z e q w =
-      let line : refused_line n p ≡ line_at tree k
-      = ap₂ refused_line e q ∙ ap (λ (l : List (List ℕ)). get_or l 0 []) (sym refused-lines) ∙ ap (line_at tree) (sym z) in
-      let low : k < length (listing tree) = omega (arith, ap length refused-lines) in
-      let long : 0 < next = omega (arith, w.reached, ends-line (numbered "refused " n ++ numbered " at " p)) in
-      some low long (subst (λ (l : List ℕ). Put old 0 l new next) line w)
+  pub refused-first : {k n p : ℕ} {old new : Line} → k ≡ 0 → n ≡ (read_record tree).number → p ≡ (read_record tree).place
+      → Puts old (refused_line n p) new
+      → Composed tree k old new 0
+  unfolding line_at
+  refused-first {k} z e q w =
+      some (omega (arith, ap length refused-lines))
+      (put_as (ap₂ refused_line e q ∙ ap (λ (l : List (List ℕ)). get_or l 0 []) (sym refused-lines) ∙ ap (line_at tree) (sym z)) w)
 
 -- the lines of an accepted tree
 module _ {tree : List ℕ} {r : Record} (read : IsRead tree r) where
@@ -113,93 +106,78 @@ module _ {tree : List ℕ} {r : Record} (read : IsRead tree r) where
       (length-each r.count (feature_line (name_of tree) r)))
 
   -- what composes each of them
-  module _ {k : ℕ} {old new : List ℕ} {next : ℕ} where
-    composed : (text line : List ℕ) → text ++ line_end ≡ line → line ≡ line_at tree k → k < r.count + 2 → Put old 0 line new next
-        → Composed tree k old new next
-    composed text line e q l w =
-        let low : k < length (listing tree) = omega (arith, lines-count) in
-        let long : 0 < next = omega (arith, w.reached, ap length e, ends-line text) in
-        some low long (subst (λ (x : List ℕ). Put old 0 x new next) q w)
+  module _ {k : ℕ} {old new : Line} where
+    pub compose_head : k ≡ 0 → Puts old (head_line r) new → Composed tree k old new 0
+    compose_head z w = some (omega (arith, lines-count)) (put_as (head-is ∙ ap (line_at tree) (sym z)) w)
 
-    pub compose-head : k ≡ 0 → Put old 0 (head_line r) new next → Composed tree k old new next
-    unfolding head_line
-    compose-head z w =
-        composed (numbered "isa " r.isa ++ numbered " features " r.count ++ numbered " enabled " (member_count (enabled_in r)))
-        (head_line r) refl (head-is ∙ ap (line_at tree) (sym z)) (omega arith) w
-
-    pub compose-feature : (k ≡ 0 → ⊥) → k ≤ r.count → Put old 0 (feature_line (name_in tree r) r (k - 1)) new next
-        → Composed tree k old new next
-    unfolding feature_line
-    compose-feature ne l w =
+    pub compose_feature : (k ≡ 0 → ⊥) → k ≤ r.count → Puts old (feature_line (name_in tree r) r (k - 1)) new → Composed tree k old new 0
+    compose_feature ne l w =
         let e : suc (k - 1) ≡ k = omega arith in
-        composed (decimal (k - 1) ++ bytes " " ++ name_in tree r (k - 1) ++ state_text (name_in tree r) r (k - 1))
-        (feature_line (name_in tree r) r (k - 1)) refl (feature-is (k - 1) (omega arith) ∙ ap (line_at tree) e) (omega arith) w
+        some (omega (arith, lines-count)) (put_as (feature-is (k - 1) (omega arith) ∙ ap (line_at tree) e) w)
 
-    pub compose-words : k ≡ r.count + 1 → Put old 0 (words_line r) new next → Composed tree k old new next
-    unfolding words_line
-    compose-words e w =
+    pub compose_words : k ≡ r.count + 1 → Puts old (words_line r) new → Composed tree k old new 0
+    compose_words e w =
         let q : suc r.count ≡ k = omega arith in
-        let v = words_in r in
-        composed (worded "hwcap " 8 v.first ++ worded " " 8 v.second ++ worded " fscr " 16 v.fscr ++ worded " hfscr " 16
-        v.hfscr) (words_line r) refl (words-is ∙ ap (line_at tree) q) (omega arith) w
+        some (omega (arith, lines-count)) (put_as (words-is ∙ ap (line_at tree) q) w)
 
-  pub compose-past : {k : ℕ} (old : List ℕ) → r.count < k → (k ≡ r.count + 1 → ⊥) → Composed tree k old old 0
-  compose-past old l ne = none (omega (arith, lines-count))
+    pub compose_past : r.count < k → (k ≡ r.count + 1 → ⊥) → Composed tree k old new 16
+    compose_past l ne = none (omega (arith, lines-count))
 
--- a composed line, or none, fits the buffer
-pub line-short : {tree : List ℕ} {k : ℕ} {blank line : List ℕ} {n : ℕ} → Composed tree k blank line n → n ≤ length blank
-line-short (none h) = omega arith
-line-short (some h z w) = omega (arith, w.reached, w.room)
+pub ruleset composes = (compose_head, compose_feature, compose_words, compose_past)
 
-pub line-size : {tree : List ℕ} {k : ℕ} {blank line : List ℕ} {n : ℕ} → Composed tree k blank line n → length line ≡ length blank
-line-size (none h) = refl
-line-size (some h z w) = w.size
+-- a line that is composed
+composed : {tree : List ℕ} {k : ℕ} {old new : Line} {n : ℕ} → Composed tree k old new n → n ≡ 0
+    → (k < length (listing tree)) × Puts old (line_at tree k) new
+composed (none h) e = absurd (omega arith)
+composed (some h w) e = (h, w)
 
--- what a line does to a lent buffer
-module _ {tree : List ℕ} {k : ℕ} {blank line : List ℕ} {n : ℕ} (c : Composed tree k blank line n) (out : List ℕ) where
-  abbrev Ends : ℕ → ℕ → List ℕ → Type 0
-  Ends number length-of new =
-      (◌≡◌ {A = Outcome ℕ} (record { number = number; value = length-of }) (write_line tree k (length out))) × (new ≡ after_line tree k out)
+-- what a composed line, or none, does to a lent buffer
+module _ (tree : List ℕ) (k : ℕ) (out : List ℕ) where
+  abbrev Ends : Outcome ℕ → List ℕ → Type 0
+  Ends outcome after = (outcome ≡ write_line tree k (length out)) × (after ≡ after_line tree k out)
 
-  pub write-none : n ≡ 0 → Ends 16 0 out
+  pub write-none : {old new : Line} {n : ℕ} → Composed tree k old new n → (n ≡ 0 → ⊥) → Ends (refuse 0 n) out
   unfolding write_line after_line line_checks
-  write-none z = go c z
-    where
-      go : {l : List ℕ} {m : ℕ} → Composed tree k blank l m → m ≡ 0 → Ends 16 0 out
-      go (none h) e = (
-        sym (stops (refuse 0) 0 0 _ _ (le→nltb k (length (listing tree)) h)),
-        sym (refused-leaves _ _ _ _ 0 (le→nltb k (length (listing tree)) h)),
-      )
-      go (some h l w) e = absurd (omega arith)
+  write-none (none h) ne = (
+    sym (stops (refuse 0) 0 0 _ _ (le→nltb k (length (listing tree)) h)),
+    sym (refused-leaves _ _ _ _ 0 (le→nltb k (length (listing tree)) h)),
+  )
+  write-none (some h w) ne = absurd (ne refl)
 
-  pub write-short : (n ≡ 0 → ⊥) → length out < n → Ends 18 0 out
-  unfolding write_line after_line line_checks
-  write-short ne s = go c ne s
-    where
-      go : {l : List ℕ} {m : ℕ} → Composed tree k blank l m → (m ≡ 0 → ⊥) → length out < m → Ends 18 0 out
-      go (none h) f q = absurd (f refl)
-      go (some h l w) f q =
-          let room : Stops 1 (line_checks tree k (length out))
-          = (lt→ltb k (length (listing tree)) h, lt→nleb (length (line_at tree k)) (length out) (omega (arith, w.reached))) in
-          (sym (stops (refuse 0) 0 1 _ _ room), sym (refused-leaves _ _ _ _ 1 room))
+  module _ {old new : Line} {n : ℕ} (c : Composed tree k old new n) (accepted : n ≡ 0) (blank : old.length ≡ 0) where
+    long : length (line_at tree k) ≡ new.length
+    long = let w = (composed c accepted).1 in omega (arith, w.reached)
 
-  pub write-all : {new : List ℕ} {last : ℕ} → (n ≡ 0 → ⊥) → n ≤ length out → Put out 0 (take n line) new last → Ends 0 n new
-  unfolding write_line after_line line_checks written
-  write-all {new} {last} ne s p = go c ne s p
-    where
-      front : {l : List ℕ} {m : ℕ} → Put blank 0 (line_at tree k) l m → take m l ≡ line_at tree k
-      front {l} {m} w =
-          let n : length (line_at tree k) ≡ m = omega (arith, w.reached) in
-          ap (take m) w.stands ∙ take_at (line_at tree k) (drop (0 + length (line_at tree k)) blank) m n
+    pub line-short : new.length ≤ length new.bytes
+    line-short = let w = (composed c accepted).1 in omega (arith, w.reached, w.room, w.size)
 
-      go : {l : List ℕ} {m : ℕ} → Composed tree k blank l m → (m ≡ 0 → ⊥) → m ≤ length out → Put out 0 (take m l) new last → Ends 0 m new
-      go (none h) f q v = absurd (f refl)
-      go {l} {m} (some h z w) f q v =
-          let room : Passes (line_checks tree k (length out))
-          = (lt→ltb k (length (listing tree)) h, (le→leb (length (line_at tree k)) (length out) (omega (arith, w.reached)), tt)) in (
-            ap answer (w.reached ∙ zero-add (length (line_at tree k))) ∙ sym (passes (refuse 0) _ _ room),
-            v.stands ∙ ap (written out 0) (front w) ∙ sym (passed-writes _ _ _ _ room),
-          )
+    pub write-short : length out < new.length → Ends (refuse 0 18) out
+    unfolding write_line after_line line_checks
+    write-short s =
+        let room : Stops 1 (line_checks tree k (length out))
+        = (lt→ltb k (length (listing tree)) (composed c accepted).0, lt→nleb (length (line_at tree k)) (length out) (omega (arith, long))) in
+        (sym (stops (refuse 0) 0 1 _ _ room), sym (refused-leaves _ _ _ _ 1 room))
+
+    front : take new.length new.bytes ≡ line_at tree k
+    unfolding written
+    front =
+        let w = (composed c accepted).1 in
+        ap (take new.length) (w.stands ∙ ap (λ (at : ℕ). written old.bytes at (line_at tree k)) blank)
+        ∙ take_at (line_at tree k) (drop (0 + length (line_at tree k)) old.bytes) new.length long
+
+    pub write-all : new.length ≤ length out → {copy : List ℕ} → copy ≡ take new.length new.bytes
+        → Ends (answer new.length) (copy ++ drop new.length out)
+    unfolding write_line after_line line_checks written
+    write-all s {copy} e =
+        let room : Passes (line_checks tree k (length out))
+        = (
+          lt→ltb k (length (listing tree)) (composed c accepted).0,
+          (le→leb (length (line_at tree k)) (length out) (omega (arith, long)), tt),
+        ) in
+        let n : new.length ≡ 0 + length (line_at tree k) = omega (arith, long) in (
+          ap answer (sym long) ∙ sym (passes (refuse 0) _ _ room),
+          ap₂ (λ (l : List ℕ) (m : ℕ). l ++ drop m out) (e ∙ front) n ∙ sym (passed-writes _ _ _ _ room),
+        )
 
 -- no more bytes are written than there are
 written-fits : (tree : List ℕ) (k room : ℕ) → (write_line tree k room).value ≤ room
@@ -215,8 +193,8 @@ line_stays tree k old =
     call_stays old 0 (line_at tree k) (line_checks tree k (length old)) (λ p. front_fits (line_at tree k) (length old) p.1.0)
 
 -- so that the bytes written are a part of the buffer
-pub length-fits : (tree : List ℕ) (k : ℕ) (old : List ℕ) (w : LineWritten) {new : List ℕ}
-    → line_outcome w ≡ write_line tree k (length old) → new ≡ after_line tree k old
-    → w.length ≤ length new
-length-fits tree k old w q e =
+pub length-fits : (tree : List ℕ) (k : ℕ) (old : List ℕ) (n : ℕ) {new : List ℕ}
+    → answer n ≡ write_line tree k (length old) → new ≡ after_line tree k old
+    → n ≤ length new
+length-fits tree k old n q e =
     omega (arith, written-fits tree k (length old), (line_stays tree k old).size, ap (λ (o : Outcome ℕ). o.value) q, ap length e)

@@ -8,7 +8,7 @@ use borrow.Author.Tests.{leb-true}
 use lib.Dec.{eqb, leb}
 use lib.ListN.{length, take, drop}
 use Rattle.strings.specs.Strings.{Text, ended, unended, onto, text_of, text_at, ending_of}
-use Rattle.strings.specs.declared.Ending.TheVariants.{At, Nowhere}
+use Rattle.std.specs.Prelude.{Some, None}
 use Rattle.strings.proofs.Strings.{text-taken}
 use Rattle.header.specs.Header.{blocks_of}
 use Rattle.header.proofs.Accepted.{header-lies}
@@ -49,10 +49,10 @@ text-longer s from end more cs h e = longer (end - from) (more - from) (drop fro
 
 -- the string at a place, as a part of the tree
 module _ (tree : List ℕ) (from : ℕ) where
-  pub string-ends : {place : ℕ} → ending_of from (text_at tree from (length tree)) ≡ At place → (from ≤ place) × (place ≤ length tree)
+  pub string-ends : {place : ℕ} → ending_of from (text_at tree from (length tree)) ≡ Some place → (from ≤ place) × (place ≤ length tree)
   string-ends e = let g = name-ends tree from (length tree) e in omega (arith, g.long, g.within)
 
-  pub string-part : {place : ℕ} → ending_of from (text_at tree from (length tree)) ≡ At place
+  pub string-part : {place : ℕ} → ending_of from (text_at tree from (length tree)) ≡ Some place
       → take (place - from) (drop from tree) ≡ string_at tree from
   unfolding string_at characters_of
   string-part {place} e =
@@ -60,11 +60,11 @@ module _ (tree : List ℕ) (from : ℕ) where
       let n : place - from ≡ length g.name = omega (arith, g.long) in
       ap (λ (k : ℕ). take k (drop from tree)) n ∙ text-taken tree from (length tree) g.name g.text ∙ sym (ap characters_of g.text)
 
-  pub no-string : ending_of from (text_at tree from (length tree)) ≡ Nowhere → [] ≡ string_at tree from
+  pub no-string : ending_of from (text_at tree from (length tree)) ≡ None → [] ≡ string_at tree from
   unfolding string_at characters_of ending_of
   no-string e = go (text_at tree from (length tree)) e
     where
-      go : (t : Text) → ending_of from t ≡ Nowhere → [] ≡ characters_of t
+      go : (t : Text) → ending_of from t ≡ None → [] ≡ characters_of t
       go (ended cs) k = let z : ◌≡◌ {A = ℕ} 0 1 = cc in absurd (omega arith)
       go unended k = refl
 
@@ -132,3 +132,6 @@ module _ {tree : List ℕ} {r : Record} (read : IsRead tree r) (i : ℕ) (low : 
   pub name-short : length (name_of tree i) ≤ 63
   unfolding name_of characters_of
   name-short = rw good.same good.short
+
+  pub name-in-short : length (name_in tree r i) ≤ 63
+  name-in-short = rw name-same name-short

@@ -5,13 +5,13 @@ use Prim.Native.Nat.{ℕ, ◌+◌, ◌≤◌}
 use native.Mathlib.Omega.{arith}
 use lib.ListN.{length, take, drop, length-append}
 use lib.Seq.{take_at, drop_at, drop-drop, length-take-le}
+use borrow.Rule.Slice.PartMut.{put_mid}
 use Rattle.cells.specs.Buffer.{written}
-use Rattle.cells.proofs.Buffer.{written_none}
-use Rattle.cells.proofs.Copying.{Copying, copy-length, copy-whole}
+use Rattle.cells.proofs.Buffer.{written_none, length-written}
 use Rattle.listing.specs.Parts.{Put}
 
-pub put-none : (old : List ℕ) (at : ℕ) → at ≤ length old → Put old at [] old at
-put-none old at h = record { stands = sym (written_none old at); reached = omega arith; room = omega arith; size = refl }
+pub put_none : (old : List ℕ) (at : ℕ) → at ≤ length old → Put old at [] old at
+put_none old at h = record { stands = sym (written_none old at); reached = omega arith; room = omega arith; size = refl }
 
 -- what is put first and what is put behind it are one text
 module _ (old : List ℕ) (at : ℕ) (text more : List ℕ) (fits : at + length text ≤ length old) where
@@ -61,11 +61,10 @@ put_then {old} {text} {mid} {more} {new} {at} {next} {end} p q = record {
 pub put_as : {old text other new : List ℕ} {at next : ℕ} → text ≡ other → Put old at text new next → Put old at other new next
 put_as {old} {new = new} {at} {next} e p = subst (λ (l : List ℕ). Put old at l new next) e p
 
--- a text that is copied to its end is put
-pub copy-ends : {old : List ℕ} {at : ℕ} {text line : List ℕ} {i : ℕ} → Copying old at text line i → length text ≤ i → Put old at text line (at + i)
-copy-ends {old} {at} {text} {line} {i} w h = record {
-  stands = copy-whole w h;
-  reached = ap (λ (n : ℕ). at + n) (omega (arith, w.within));
-  room = w.fits;
-  size = copy-length w;
-}
+-- a text that is copied into its place is put
+pub put_copied : (old : List ℕ) (at many : ℕ) {text copy : List ℕ} → at + length text ≤ length old → many ≡ length text → copy ≡ text
+    → Put old at text (put_mid at many old copy) (at + length text)
+unfolding written
+put_copied old at many {text} {copy} fits long same =
+    let stands : put_mid at many old copy ≡ written old at text = rw (same, long, drop-drop (length text) at old) in
+    record { stands = stands; reached = refl; room = fits; size = ap length stands ∙ length-written old at text fits }

@@ -5,11 +5,14 @@ use mathlib.Core.Bool.{Bool, true, false}
 use mathlib.Core.List.{List, [], ◌∷◌, ◌++◌, map}
 use Prim.Native.Nat.{ℕ, zero, suc, ◌<◌, ◌≤◌}
 use native.Mathlib.Omega.{arith}
+use Rattle.std.specs.Prelude.{EachIndex, Result, Ok, Err, IsOk}
 use lib.Dec.{le→leb, lt→ltb}
-use lib.ListN.{length, get_or, take, length-take, length-append, length-map}
-use lib.Seq.{get_or-take, take_at}
+use lib.ListN.{length, get_or, take, length-append, length-map}
+use lib.Seq.{take_at}
 use Rattle.characters.specs.Characters.{bytes}
-use Rattle.refusal.specs.Refusal.{Outcome, answer, refuse, number_of}
+use Rattle.refusal.specs.Refusal.{Outcome, answer, refuse, outcome_of}
+use Rattle.refusal.specs.declared.Refusal.{Refusal}
+use Rattle.refusal.proofs.Numbers.{numbered}
 use Rattle.refusal.proofs.Checks.{stops}
 use Rattle.cells.specs.Buffer.{written}
 use Rattle.positions.specs.Sets.{has, member_count}
@@ -26,16 +29,15 @@ use Rattle.enabled.specs.Answers.{Members, members_of, nobody, enabled_set, enab
 use Rattle.enabled.specs.declared.Enabled.{Enabled}
 use Rattle.enabled.proofs.DependencyLaws.{graph-below}
 use Rattle.enabled.proofs.AnswerLaws.{few}
-use Rattle.chain.specs.Chain.{is_enabled, chain_in, chain_checks, chain, after_chain, chain_outcome}
-use Rattle.chain.specs.declared.ChainTold.{ChainTold}
+use Rattle.chain.specs.Chain.{is_enabled, chain_in, chain_checks, chain, after_chain}
 use Rattle.chain.proofs.Told.{told-chain, told-fits, told-length, told-bytes}
 use Rattle.words.specs.Words.{WordValues, no_words, words_of, words, words_outcome}
 use Rattle.words.specs.declared.FeatureWords.{FeatureWords}
 use Rattle.reading.proofs.Formed.{read-formed}
 use Rattle.listing.specs.Digits.{decimal}
 use Rattle.listing.specs.Listing.{user, all_granted, permitted_in, enabled_in, words_in, name_of, joined, state_text, line_end, feature_line}
-use Rattle.listing.specs.Parts.{name_in, names_in, Positions, IsRead}
-use Rattle.listing.proofs.DigitLaws.{decimal-most}
+use Rattle.listing.specs.Parts.{name_in, IsRead}
+use Rattle.listing.proofs.DigitLaws.{decimal_most}
 use Rattle.listing.proofs.NameLaws.{name-same, name-short}
 use Rattle.listing.proofs.JoinLaws.{AllShort, joined-short}
 
@@ -61,12 +63,23 @@ map-short : (f : ℕ → List ℕ) (xs : List ℕ) → ((j : ℕ) → j < length
 map-short f [] h = tt
 map-short f (x ∷ xs) h = (h 0 (omega arith), map-short f xs (λ j l. h (suc j) (omega arith)))
 
+-- an outcome with no number is an answer
+outcome-ok : {A B : Type 0} (part : A → B) (zeros : B) (x : Result A Refusal) → (outcome_of part zeros x).number ≡ 0 → IsOk x
+outcome-ok part zeros (Ok a) e = refl
+outcome-ok part zeros (Err r) e = absurd (numbered r e)
+
 -- how long the parts of a feature's line are
 pub record FeatureFits (tree : List ℕ) (r : Record) (i : ℕ) : Type 0 where
   pub low : i < most_features
   pub digits : length (decimal i) ≤ 2
   pub name : length (name_in tree r i) ≤ 63
   pub state : length (state_text (name_in tree r) r i) ≤ 4100
+
+-- the positions that are told of a feature that is left out
+pub record Told (tree : List ℕ) (r : Record) (i : ℕ) (listed : List ℕ) (n : ℕ) : Type 0 where
+  pub few : n ≤ most_features
+  pub low : EachIndex (take n listed) (λ j. get_or (take n listed) j 0 < r.count)
+  pub same : bytes " off " ++ joined (map (name_in tree r) (take n listed)) ≡ state_text (name_in tree r) r i
 
 module _ {tree : List ℕ} {r : Record} (read : IsRead tree r) where
   pub read-good : well_formed r ≡ true
@@ -77,24 +90,33 @@ module _ {tree : List ℕ} {r : Record} (read : IsRead tree r) where
 
   -- what the calls for the enabled set and the words answer
   module _ {g : Grants} (granted : g ≡ all_granted) where
-    pub head-count : (e : Enabled) → enabled_outcome e ≡ enable r user g → e.count ≡ member_count (enabled_in r)
+    enabled-answer : enable r user g ≡ answer (members_of (enabled_in r))
     unfolding enable enabled_in permitted_in
-    head-count e q =
-        ap (λ (o : Outcome Members). o.value.count)
-        (q
-        ∙ ap (enable r user) granted
+    enabled-answer =
+        ap (enable r user) granted
         ∙ sym (asked-answered r user nobody (members_of (enabled_set r (permitted_set r user all_granted)))
-        (all-good r user read-good (omega arith)) refl))
+        (all-good r user read-good (omega arith)) refl)
 
-    pub words_are : (w : FeatureWords) → words_outcome w ≡ words r user g → (words_outcome w).value ≡ words_in r
+    pub enable-ok : (e : Result Enabled Refusal) → enabled_outcome e ≡ enable r user g → IsOk e
+    enable-ok e q = outcome-ok _ _ _ (ap (λ (o : Outcome Members). o.number) (q ∙ enabled-answer))
+
+    pub head-count : (e : Result Enabled Refusal) (v : Enabled) → enabled_outcome e ≡ enable r user g → e ≡ Ok v → v.count ≡ member_count (enabled_in r)
+    head-count e v q h = ap (λ (o : Outcome Members). o.value.count) (sym (ap enabled_outcome h) ∙ q ∙ enabled-answer)
+
+    words-answer : words r user g ≡ answer (words_in r)
     unfolding words words_in enabled_in permitted_in
-    words_are w q =
-        ap (λ (o : Outcome WordValues). o.value)
-        (q
-        ∙ ap (words r user) granted
+    words-answer =
+        ap (words r user) granted
         ∙ sym
         (asked-answered r user no_words (words_of r user all_granted (enabled_set r (permitted_set r user all_granted)))
-        (all-good r user read-good (omega arith)) refl))
+        (all-good r user read-good (omega arith)) refl)
+
+    pub words-ok : (w : Result FeatureWords Refusal) → words_outcome w ≡ words r user g → IsOk w
+    words-ok w q = outcome-ok _ _ _ (ap (λ (o : Outcome WordValues). o.number) (q ∙ words-answer))
+
+    pub words_are : (w : Result FeatureWords Refusal) (v : FeatureWords) → words_outcome w ≡ words r user g → w ≡ Ok v
+        → (words_outcome (Ok v)).value ≡ words_in r
+    words_are w v q h = ap (λ (o : Outcome WordValues). o.value) (sym (ap words_outcome h) ∙ q ∙ words-answer)
 
   -- the feature at a position
   module _ (i : ℕ) (low : i < r.count) where
@@ -107,67 +129,56 @@ module _ {tree : List ℕ} {r : Record} (read : IsRead tree r) where
         (told-chain r read-good (permitted_in r) i low out) low
 
     -- the call for its chain
-    module _ {g : Grants} (granted : g ≡ all_granted) (old listed : List ℕ) (t : ChainTold) (long : length old ≡ most_features)
-        (told : chain_outcome t ≡ chain r user g i (length old)) (left : listed ≡ after_chain r user g i old) where
-      outcome : chain_outcome t ≡ chain r user all_granted i (length old)
+    module _ {g : Grants} (granted : g ≡ all_granted) (old listed : List ℕ) (o : Outcome ℕ) (long : length old ≡ most_features)
+        (told : o ≡ chain r user g i (length old)) (left : listed ≡ after_chain r user g i old) where
+      outcome : o ≡ chain r user all_granted i (length old)
       outcome = told ∙ ap (λ (x : Grants). chain r user x i (length old)) granted
 
-      enabled-number : is_enabled r (permitted_in r) i ≡ true → number_of t.refusal ≡ 17
+      enabled-number : is_enabled r (permitted_in r) i ≡ true → o.number ≡ 17
       unfolding chain chain_checks asked_checks permitted_in
       enabled-number on =
-          ap (λ (o : Outcome ℕ). o.number)
+          ap (λ (x : Outcome ℕ). x.number)
           (outcome ∙ stops (refuse 0) 0 3 _ _
           (rw read-good tt, (le→leb user hypervisor (omega arith), (lt→ltb i r.count low, rw on tt))))
 
-      out-outcome : is_enabled r (permitted_in r) i ≡ false → chain_outcome t ≡ answer (length given)
+      out-outcome : is_enabled r (permitted_in r) i ≡ false → o ≡ answer (length given)
       unfolding permitted_in
       out-outcome out = outcome ∙ told-length r user all_granted i read-good (omega arith) low out (length old) (omega (arith, read-few))
 
-      out-bytes : is_enabled r (permitted_in r) i ≡ false → take t.length listed ≡ given
+      out-bytes : is_enabled r (permitted_in r) i ≡ false → take o.value listed ≡ given
       unfolding permitted_in written
       out-bytes out =
-          ap₂ (λ (n : ℕ) (l : List ℕ). take n l) (ap (λ (o : Outcome ℕ). o.value) (out-outcome out))
+          ap₂ (λ (n : ℕ) (l : List ℕ). take n l) (ap (λ (x : Outcome ℕ). x.value) (out-outcome out))
           (left
           ∙ ap (λ (x : Grants). after_chain r user x i old) granted
           ∙ told-bytes r user all_granted i read-good (omega arith) low out old (omega (arith, read-few)))
           ∙ take_at given _ (length given) refl
 
-      out-positions : is_enabled r (permitted_in r) i ≡ false → Positions listed t.length
-      out-positions out =
-          let n : t.length ≡ length given = ap (λ (o : Outcome ℕ). o.value) (out-outcome out) in
-          record {
-            least = omega (arith, chain-some (told-chain r read-good (permitted_in r) i low out));
-            most = omega (arith, ap length (out-bytes out), length-take t.length listed);
-            low = λ j h.
-                let k = given-low out j (omega arith) in
-                let e : get_or listed j 0 ≡ get_or given j 0 = sym (get_or-take t.length listed j 0 h) ∙ ap (λ (l : List ℕ). get_or l j 0)
-                (out-bytes out) in
-                omega (arith, read-few);
-          }
-
-      pub state-on : (number_of t.refusal ≡ 0 → ⊥) → bytes " on" ≡ state_text (name_in tree r) r i
+      pub state-on : (o.number ≡ 0 → ⊥) → bytes " on" ≡ state_text (name_in tree r) r i
       unfolding state_text
       state-on ne = go (is_enabled r (permitted_in r) i) refl
         where
           go : (b : Bool) → is_enabled r (permitted_in r) i ≡ b → bytes " on" ≡ state_text (name_in tree r) r i
           go true e = rw (e, state_text)
-          go false e = absurd (ne (ap (λ (o : Outcome ℕ). o.number) (out-outcome e)))
+          go false e = absurd (ne (ap (λ (x : Outcome ℕ). x.number) (out-outcome e)))
 
-      is-out : number_of t.refusal ≡ 0 → is_enabled r (permitted_in r) i ≡ false
+      is-out : o.number ≡ 0 → is_enabled r (permitted_in r) i ≡ false
       is-out z = go (is_enabled r (permitted_in r) i) refl
         where
           go : (b : Bool) → is_enabled r (permitted_in r) i ≡ b → is_enabled r (permitted_in r) i ≡ false
           go true e = let k : ◌≡◌ {A = ℕ} 17 0 = sym (enabled-number e) ∙ z in absurd (omega arith)
           go false e = e
 
-      pub off-positions : number_of t.refusal ≡ 0 → Positions listed t.length
-      off-positions z = out-positions (is-out z)
-
-      pub state-off : number_of t.refusal ≡ 0 → bytes " off " ++ names_in tree r listed t.length ≡ state_text (name_in tree r) r i
-      unfolding state_text names_in
+      pub state-off : o.number ≡ 0 → Told tree r i listed o.value
+      unfolding state_text
       state-off z =
           let out = is-out z in
-          ap (λ (xs : List ℕ). bytes " off " ++ joined (map (name_in tree r) xs)) (out-bytes out) ∙ sym (rw (out, state_text))
+          let fits = told-fits r read-good (permitted_in r) i low out in
+          record {
+            few = omega (arith, read-few, fits, ap (λ (x : Outcome ℕ). x.value) (out-outcome out));
+            low = rw (out-bytes out) (given-low out);
+            same = ap (λ (xs : List ℕ). bytes " off " ++ joined (map (name_in tree r) xs)) (out-bytes out) ∙ sym (rw (out, state_text));
+          }
 
     -- its line, by the names of the tree
     state-names : state_text (name_in tree r) r i ≡ state_text (name_of tree) r i
@@ -201,10 +212,10 @@ module _ {tree : List ℕ} {r : Record} (read : IsRead tree r) where
             (omega arith) in
             rw (e, state_text) (omega (arith, read-few, length-append (bytes " off ") (joined names)))
 
-    pub feature-fits : FeatureFits tree r i
-    feature-fits = record {
+    pub feature_fits : FeatureFits tree r i
+    feature_fits = record {
       low = omega (arith, read-few);
-      digits = decimal-most 1 i (omega (arith, read-few));
+      digits = decimal_most 1 i (omega (arith, read-few));
       name = rw (name-same read i low) (name-short read i low);
       state = rw state-names state-short;
     }

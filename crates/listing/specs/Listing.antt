@@ -1,8 +1,9 @@
 -- The lister's text (document 01, "Both sides"): the lines of a tree, and one of them in a lent buffer.
-use Rattle.std.specs.Prelude.{ℕ, zero, suc, ◌+◌, ◌*◌, ◌^◌, ◌-◌, true, false, List, [], ◌∷◌, ◌++◌, map, leb, ltb, length, get_or}
+use Rattle.std.specs.Prelude.{ℕ, zero, suc, ◌+◌, ◌*◌, ◌^◌, ◌-◌, true, false, List, [], ◌∷◌, ◌++◌, map, leb, ltb, length, get_or, Result}
 use Prim.Native.String.{String}
 use Rattle.characters.specs.Characters.{bytes}
-use Rattle.refusal.specs.Refusal.{Outcome, answer, refuse, number_of}
+use Rattle.refusal.specs.Refusal.{Outcome, answer, refuse, outcome_of}
+use Rattle.refusal.specs.declared.Refusal.{Refusal}
 use Rattle.refusal.specs.Checks.{Check, check, first_fault}
 use Rattle.cells.specs.Buffer.{after_writing}
 use Rattle.cells.specs.Rows.{each}
@@ -20,7 +21,6 @@ use Rattle.enabled.specs.Answers.{enabled_set}
 use Rattle.chain.specs.Chain.{is_enabled, chain_in}
 use Rattle.words.specs.Words.{WordValues, words_of}
 use Rattle.listing.specs.Digits.{decimal, hex_word}
-use Rattle.listing.specs.declared.LineWritten.{LineWritten}
 
 -- "at user level"
 abbrev pub user : ℕ
@@ -132,5 +132,5 @@ unfoldable pub after_line : List ℕ → ℕ → List ℕ → List ℕ
 after_line tree k old = after_writing (line_checks tree k (length old)) old 0 (line_at tree k)
 
 -- what an answer says: the number of document 01, and the length
-abbrev pub line_outcome : LineWritten → Outcome ℕ
-line_outcome w = record { number = number_of w.refusal; value = w.length }
+abbrev pub line_outcome : Result ℕ Refusal → Outcome ℕ
+line_outcome w = outcome_of (λ (n : ℕ). n) 0 w

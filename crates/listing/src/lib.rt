@@ -1,48 +1,31 @@
 // The lister's text: the lines of a tree, one at a time.
 #![tactic(auto)]
 
-ghost use Rattle.std.specs.Prelude.{◌≡◌, ◌++◌, ◌+◌, ◌<◌, ◌≤◌, length as length-of};
-ghost use Rattle.refusal.specs.Refusal.{refuse, number_of};
-ghost use Rattle.record.specs.Record.{most_features};
-ghost use Rattle.listing.specs.Digits.{last_digits, decimal_places, decimal, hex_word};
+ghost use Rattle.std.specs.Prelude.{◌≡◌, ◌++◌, ◌+◌, ◌*◌, ◌<◌, ◌≤◌, EachIndex, slice_index, map, length as length-of};
+ghost use Rattle.listing.specs.Digits.{decimal, hex_word};
 ghost use Rattle.listing.specs.Listing.{
   all_granted,
+  joined,
   state_text,
   head_line,
   feature_line,
   words_line,
   refused_line,
-  longest_line,
   write_line,
   after_line,
   line_outcome,
 };
-ghost use Rattle.listing.specs.Parts.{Put, string_at, name_in, others_in, names_in, Positions, IsRead, Composed};
+ghost use Rattle.listing.specs.Parts.{Puts, Room, name_in, IsRead, Composed};
+ghost use Rattle.refusal.specs.Refusal.{number_of, number_in};
 
 use names::MOST_NODE_NAME;
 use permitted::{Grants, USER};
 use record::{MOST_FEATURES, Record};
-use refusal::Refusal;
-use strings::Ending;
+use refusal::{Refusal, RefusedAt};
 
 // The most bytes that a line has: two digits, a space, a name, ` off `, and as many names as there may be features, each with the `>` or
 // the line's end behind it.
 pub const LONGEST_LINE: usize = 2 + 1 + MOST_NODE_NAME + 5 + MOST_FEATURES * (MOST_NODE_NAME + 1);
-
-const ALL_BITS: u64 = 0xffffffffffffffff;
-
-// A refusal, or how many bytes of a lent buffer a line took; 0 beside a refusal.
-#[derive(Clone, Copy)]
-pub struct LineWritten {
-    pub refusal: Refusal,
-    pub length: u32,
-}
-
-fn wide(x: u8) -> usize
-    ensures { (result ≡ x) × (result < 256) }
-{
-    x as usize
-}
 
 // All HFSCR and FSCR bits, and no own code.
 fn all_granted() -> Grants
@@ -51,260 +34,222 @@ fn all_granted() -> Grants
     Grants {
         hypervisor: positions::empty(),
         system: positions::empty(),
-        hfscr: ALL_BITS,
-        fscr: ALL_BITS,
+        hfscr: u64::MAX,
+        fscr: u64::MAX,
     }
 }
 
-// Puts a text into a line from a place on, and answers the place behind it, as each `put_` does.
-fn put(line: &mut [u8], at: usize, text: &[u8]) -> usize
-    requires { at + length-of text.now ≤ length-of line.old }
-    ensures { Put line.old at text.now line.new result }
-{
-    let mut i: usize = 0;
-    while i < text.len() {
-        line[at + i] = text[i];
-        i += 1;
+// A line that is composed: what it has so far, at the front of an array.
+#[derive(Drop)]
+struct Line {
+    bytes: [u8; LONGEST_LINE],
+    length: usize,
+}
+
+impl Line {
+    // Puts a text behind what the line has, as each `put_` does.
+    #[tactic(auto, using(crate::proofs::PutLaws::put_copied))]
+    fn put(&mut self, text: &[u8])
+        requires { Room self.old (length-of text.now) }
+        ensures { Puts self.old text.now self.new }
+    {
+        let end = self.length + text.len();
+        self.bytes[self.length..end].copy_from_slice(text);
+        self.length = end;
     }
-    at + i
-}
 
-// Puts the last digits of a number in a base up to sixteen: a round a digit.
-fn put_digits(line: &mut [u8], at: usize, base: u64, many: usize, number: u64) -> usize
-    requires { (1 ≤ base) × (base ≤ 16) × (at + many ≤ length-of line.old) }
-    ensures { Put line.old at (last_digits base many number) line.new result }
-{
-    let end = at + many;
-    let mut rest = number;
-    let mut place = end;
-    while at < place {
-        place -= 1;
-        line[place] = characters::hex_digit(rest % base);
-        rest = rest / base;
+    fn put_decimal(&mut self, number: u64)
+        requires { Room self.old (length-of (decimal number)) }
+        ensures { Puts self.old (decimal number) self.new }
+    {
+        let mut digits = itoa::Buffer::new();
+        self.put(digits.format(number).as_bytes());
     }
-    end
-}
 
-// How many decimal digits a number has: a round a digit.
-fn decimal_places(number: u64) -> usize
-    ensures { result ≡ decimal_places number }
-{
-    let mut places: usize = 1;
-    let mut rest = number;
-    while 10 <= rest {
-        places += 1;
-        rest = rest / 10;
+    // Puts a word in hexadecimal, its last digit first. No `write!`: it promises its text only on Ok, and `write_line` has no refusal for an Err.
+    fn put_hex(&mut self, many: usize, number: u64)
+        requires { Room self.old many }
+        ensures { Puts self.old (hex_word many number) self.new }
+    {
+        let end = self.length + many;
+        let mut rest = number;
+        for place in (self.length..end).rev() {
+            self.bytes[place] = characters::hex_digit(rest % 16);
+            rest /= 16;
+        }
+        self.length = end;
     }
-    places
-}
 
-fn put_decimal(line: &mut [u8], at: usize, number: u64) -> usize
-    requires { at + length-of (decimal number) ≤ length-of line.old }
-    ensures { Put line.old at (decimal number) line.new result }
-{
-    put_digits(line, at, 10, decimal_places(number), number)
-}
+    // Puts a text and a number in decimal, of at most twenty digits.
+    #[tactic(auto, using(crate::proofs::DigitLaws::decimal_short))]
+    fn put_numbered(&mut self, text: &[u8], number: u64)
+        requires { Room self.old (length-of text.now + 20) }
+        ensures { Puts self.old (text.now ++ decimal number) self.new }
+    {
+        self.put(text);
+        self.put_decimal(number);
+    }
 
-// Puts a text and a number in decimal, of at most twenty digits.
-fn put_numbered(line: &mut [u8], at: usize, text: &[u8], number: u64) -> usize
-    requires { at + length-of text.now + 20 ≤ length-of line.old }
-    ensures { Put line.old at (text.now ++ decimal number) line.new result
-        × (result ≤ at + length-of text.now + 20) }
-{
-    let next = put(line, at, text);
-    put_decimal(line, next, number)
-}
+    // Puts a text and a word in hexadecimal.
+    fn put_worded(&mut self, text: &[u8], many: usize, number: u64)
+        requires { Room self.old (length-of text.now + many) }
+        ensures { Puts self.old (text.now ++ hex_word many number) self.new }
+    {
+        self.put(text);
+        self.put_hex(many, number);
+    }
 
-// Puts a text and a word in hexadecimal.
-fn put_worded(line: &mut [u8], at: usize, text: &[u8], many: usize, number: u64) -> usize
-    requires { at + length-of text.now + many ≤ length-of line.old }
-    ensures { Put line.old at (text.now ++ hex_word many number) line.new result
-        × (result ≡ at + length-of text.now + many) }
-{
-    let next = put(line, at, text);
-    put_digits(line, next, 16, many, number)
-}
-
-// Puts the string that begins at a place of a tree, without its zero byte; nothing where it does not end.
-fn put_string(line: &mut [u8], at: usize, tree: &[u8], from: usize) -> usize
-    requires { at + length-of (string_at tree.now from) ≤ length-of line.old }
-    ensures { Put line.old at (string_at tree.now from) line.new result }
-{
-    let ending = strings::text_end(tree, from, tree.len());
-    match ending {
-        Ending::At(zero) => put(line, at, &tree[from..zero]),
-        Ending::Nowhere => at,
+    #[tactic(auto, using(crate::proofs::DigitLaws::decimal_short))]
+    fn put_refused(&mut self, at: RefusedAt)
+        requires { self.old.length ≡ 0 }
+        ensures { Puts self.old (refused_line (number_of at.refusal) at.place) self.new }
+    {
+        self.put_numbered(b"refused ", u64::from(u32::from(at.refusal)));
+        self.put_numbered(b" at ", at.place as u64);
+        self.put(b"\n");
     }
 }
 
-// Puts the name of the feature at a position, from the tree that the record was read from.
-fn put_name(line: &mut [u8], at: usize, tree: &[u8], r: Record, i: usize) -> usize
-    requires { (i < most_features) × (at + length-of (name_in tree.now r i) ≤ length-of line.old) }
-    ensures { Put line.old at (name_in tree.now r i) line.new result }
-{
-    let f = r.features[i];
-    put_string(line, at, tree, f.offset as usize + 4)
+// An accepted tree and its record.
+#[derive(Drop)]
+struct Accepted<'a> {
+    tree: &'a [u8],
+    record: Record,
+    ghost read: { IsRead tree.now «record» },
 }
 
-// Puts `>` and a name for each of the first `many` positions of a list but the first.
-fn put_others(
-    line: &mut [u8],
-    at: usize,
-    tree: &[u8],
-    r: Record,
-    listed: &[u8],
-    many: usize,
-) -> usize
-    requires { Positions listed.now many
-        × (at + length-of (others_in tree.now r listed.now many) ≤ length-of line.old) }
-    ensures { Put line.old at (others_in tree.now r listed.now many) line.new result }
-{
-    let mut end = at;
-    let mut i: usize = 1;
-    while i < many {
-        end = put(line, end, b">");
-        end = put_name(line, end, tree, r, wide(listed[i]));
-        i += 1;
+impl Accepted<'_> {
+    // The name of the feature at a position.
+    fn name(&self, i: usize) -> &[u8]
+        requires { i < self.now.record.count }
+        ensures { (result.now ≡ name_in self.now.tree.now self.now.record i) × (length-of result.now ≤ 63) }
+    {
+        let from = self.record.features[i].offset as usize + 4;
+        match strings::text_end(self.tree, from, self.tree.len()) {
+            Some(zero) => &self.tree[from..zero],
+            None => &[],
+        }
     }
-    end
-}
 
-// Puts the names of the features at the first `many` positions of a list, with `>` between them.
-fn put_names(
-    line: &mut [u8],
-    at: usize,
-    tree: &[u8],
-    r: Record,
-    listed: &[u8],
-    many: usize,
-) -> usize
-    requires { Positions listed.now many
-        × (at + length-of (names_in tree.now r listed.now many) ≤ length-of line.old) }
-    ensures { Put line.old at (names_in tree.now r listed.now many) line.new result }
-{
-    let next = put_name(line, at, tree, r, wide(listed[0]));
-    put_others(line, next, tree, r, listed, many)
-}
-
-// Puts whether a feature is on, and its chain where it is not.
-fn put_state(line: &mut [u8], at: usize, tree: &[u8], r: Record, i: u32) -> usize
-    requires { IsRead tree.now r
-        × (i < r.count)
-        × (at + length-of (state_text (name_in tree.now r) r i) ≤ length-of line.old) }
-    ensures { Put line.old at (state_text (name_in tree.now r) r i) line.new result }
-{
-    let mut listed: [u8; MOST_FEATURES] = [0; MOST_FEATURES];
-    let told = chain::chain(r, USER, all_granted(), i, &mut listed);
-    let refusal = told.refusal;
-    if refusal::number(refusal) != 0 {
-        return put(line, at, b" on");
+    // Puts the names of the features at some positions, with `>` between them.
+    fn put_names(&self, line: &mut Line, positions: &[u8])
+        requires { Room line.old (64 * length-of positions.now)
+            × EachIndex positions.now (λ j. slice_index positions.now j < self.now.record.count) }
+        ensures { Puts line.old (joined (map (name_in self.now.tree.now self.now.record) positions.now)) line.new }
+    {
+        let Some((first, others)) = positions.split_first() else {
+            return;
+        };
+        line.put(self.name(usize::from(*first)));
+        for i in others {
+            line.put(b">");
+            line.put(self.name(usize::from(*i)));
+        }
     }
-    let names = put(line, at, b" off ");
-    put_names(line, names, tree, r, &listed, told.length as usize)
-}
 
-fn head_line(line: &mut [u8], tree: &[u8], r: Record) -> usize
-    requires { IsRead tree.now r × (longest_line ≤ length-of line.old) }
-    ensures { Put line.old 0 (head_line r) line.new result }
-{
-    let enabled = enabled::enable(r, USER, all_granted());
-    let mut at = put_numbered(line, 0, b"isa ", r.isa as u64);
-    at = put_numbered(line, at, b" features ", r.count as u64);
-    at = put_numbered(line, at, b" enabled ", enabled.count as u64);
-    put(line, at, b"\n")
-}
-
-fn feature_line(line: &mut [u8], tree: &[u8], r: Record, i: u32) -> usize
-    requires { IsRead tree.now r × (i < r.count) × (longest_line ≤ length-of line.old) }
-    ensures { Put line.old 0 (feature_line (name_in tree.now r) r i) line.new result }
-{
-    let mut at = put_decimal(line, 0, i as u64);
-    at = put(line, at, b" ");
-    at = put_name(line, at, tree, r, i as usize);
-    at = put_state(line, at, tree, r, i);
-    put(line, at, b"\n")
-}
-
-fn words_line(line: &mut [u8], tree: &[u8], r: Record) -> usize
-    requires { IsRead tree.now r × (longest_line ≤ length-of line.old) }
-    ensures { Put line.old 0 (words_line r) line.new result }
-{
-    let words = words::words(r, USER, all_granted());
-    let mut at = put_worded(line, 0, b"hwcap ", 8, words.hwcap_first as u64);
-    at = put_worded(line, at, b" ", 8, words.hwcap_second as u64);
-    at = put_worded(line, at, b" fscr ", 16, words.fscr);
-    at = put_worded(line, at, b" hfscr ", 16, words.hfscr);
-    put(line, at, b"\n")
-}
-
-fn refused_line(line: &mut [u8], number: u32, place: usize) -> usize
-    requires { longest_line ≤ length-of line.old }
-    ensures { Put line.old 0 (refused_line number place) line.new result }
-{
-    let mut at = put_numbered(line, 0, b"refused ", number as u64);
-    at = put_numbered(line, at, b" at ", place as u64);
-    put(line, at, b"\n")
-}
-
-// Puts line `k` of an accepted tree's list into the front of a buffer, and answers its length; 0 where there is no such line.
-fn record_line(line: &mut [u8], tree: &[u8], r: Record, k: u32) -> usize
-    requires { IsRead tree.now r × (longest_line ≤ length-of line.old) }
-    ensures { Composed tree.now k line.old line.new result }
-{
-    if k == 0 {
-        return head_line(line, tree, r);
+    // Puts whether a feature is on, and its chain where it is not.
+    fn put_state(&self, line: &mut Line, i: u32)
+        requires { (i < self.now.record.count) × Room line.old 4101 }
+        ensures { Puts line.old (state_text (name_in self.now.tree.now self.now.record) self.now.record i) line.new }
+    {
+        let mut positions: [u8; MOST_FEATURES] = [0; MOST_FEATURES];
+        match chain::chain(self.record, USER, all_granted(), i, &mut positions) {
+            Ok(length) => {
+                line.put(b" off ");
+                self.put_names(line, &positions[..length as usize]);
+            }
+            Err(_) => line.put(b" on"),
+        }
     }
-    if k <= r.count {
-        return feature_line(line, tree, r, k - 1);
+
+    #[tactic(auto, using(crate::proofs::DigitLaws::decimal_short))]
+    fn put_head(&self, line: &mut Line)
+        requires { line.old.length ≡ 0 }
+        ensures { Puts line.old (head_line self.now.record) line.new }
+    {
+        let enabled = enabled::enable(self.record, USER, all_granted()).unwrap();
+        line.put_numbered(b"isa ", u64::from(self.record.isa));
+        line.put_numbered(b" features ", u64::from(self.record.count));
+        line.put_numbered(b" enabled ", u64::from(enabled.count));
+        line.put(b"\n");
     }
-    if k == r.count + 1 {
-        return words_line(line, tree, r);
+
+    #[tactic(auto, using(crate::proofs::StateLaws::feature_fits))]
+    fn put_feature(&self, line: &mut Line, i: u32)
+        requires { (i < self.now.record.count) × (line.old.length ≡ 0) }
+        ensures { Puts line.old (feature_line (name_in self.now.tree.now self.now.record) self.now.record i) line.new }
+    {
+        line.put_decimal(u64::from(i));
+        line.put(b" ");
+        line.put(self.name(i as usize));
+        self.put_state(line, i);
+        line.put(b"\n");
     }
-    0
+
+    #[tactic(auto, using(crate::proofs::DigitLaws::length_digits))]
+    fn put_words(&self, line: &mut Line)
+        requires { line.old.length ≡ 0 }
+        ensures { Puts line.old (words_line self.now.record) line.new }
+    {
+        let words = words::words(self.record, USER, all_granted()).unwrap();
+        line.put_worded(b"hwcap ", 8, u64::from(words.hwcap_first));
+        line.put_worded(b" ", 8, u64::from(words.hwcap_second));
+        line.put_worded(b" fscr ", 16, words.fscr);
+        line.put_worded(b" hfscr ", 16, words.hfscr);
+        line.put(b"\n");
+    }
+
+    // Puts line `k` of the tree's list.
+    #[tactic(auto, using(crate::proofs::LineLaws::composes))]
+    fn put_line(&self, line: &mut Line, k: u32) -> Result<(), Refusal>
+        requires { line.old.length ≡ 0 }
+        ensures { Composed self.now.tree.now k line.old line.new (number_in result) }
+    {
+        let count = self.record.count;
+        if k == 0 {
+            self.put_head(line);
+        } else if k <= count {
+            self.put_feature(line, k - 1);
+        } else if k == count + 1 {
+            self.put_words(line);
+        } else {
+            return Err(Refusal::Position);
+        }
+        Ok(())
+    }
 }
 
-// The same of any tree.
-fn compose(line: &mut [u8], tree: &[u8], k: u32) -> usize
-    requires { longest_line ≤ length-of line.old }
-    ensures { Composed tree.now k line.old line.new result }
+// Puts line `k` of the list of any tree into an empty line.
+fn compose(line: &mut Line, tree: &[u8], k: u32) -> Result<(), Refusal>
+    requires { line.old.length ≡ 0 }
+    ensures { Composed tree.now k line.old line.new (number_in result) }
 {
-    let read = reader::read_record(tree);
-    let refusal = read.refusal;
-    let number = refusal::number(refusal);
-    if number == 0 {
-        let r = read.record;
-        return record_line(line, tree, r, k);
+    match reader::read_record(tree) {
+        Ok(record) => Accepted { tree, record }.put_line(line, k),
+        Err(_) if k != 0 => Err(Refusal::Position),
+        Err(at) => {
+            line.put_refused(at);
+            Ok(())
+        }
     }
-    if k != 0 {
-        return 0;
-    }
-    refused_line(line, number, read.place)
-}
-
-fn refused(refusal: Refusal) -> LineWritten
-    ensures { line_outcome result ≡ refuse 0 (number_of refusal) }
-{
-    LineWritten { refusal, length: 0 }
 }
 
 // Line `k` of the list of a tree, counted from 0, into the front of a lent buffer; the list ends where 16 comes. Refusals: 16, 18. A
 // buffer of `LONGEST_LINE` bytes is never too short. The tree is read anew for each line, so a whole list costs as many readings as it
 // has lines, at most 66.
-pub fn write_line(tree: &[u8], k: u32, out: &mut [u8]) -> LineWritten
+pub fn write_line(tree: &[u8], k: u32, out: &mut [u8]) -> Result<u32, Refusal>
     ensures result_value { line_outcome result ≡ write_line tree.now k (length-of out.old) }
     ensures out_after { out.new ≡ after_line tree.now k out.old }
 {
-    let mut line: [u8; LONGEST_LINE] = [0; LONGEST_LINE];
-    let length = compose(&mut line, tree, k);
-    if length == 0 {
-        return refused(Refusal::Position);
-    }
+    let mut line = Line {
+        bytes: [0; LONGEST_LINE],
+        length: 0,
+    };
+    compose(&mut line, tree, k)?;
+    let length = line.length;
     if out.len() < length {
-        return refused(Refusal::BufferLength);
+        return Err(Refusal::BufferLength);
     }
-    put(out, 0, &line[..length]);
-    LineWritten {
-        refusal: Refusal::None,
-        length: length as u32,
-    }
+    out[..length].copy_from_slice(&line.bytes[..length]);
+    Ok(length as u32)
 }
