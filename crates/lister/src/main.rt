@@ -9,28 +9,16 @@ use listing::LONGEST_LINE;
 use std::io;
 use std::io::{Read, Write};
 
-// Prints a line of a tree's list, and answers whether another may follow.
-fn print_line(rt: &(impl Print + Eprint), tree: &[u8], k: u32) -> bool {
+// Prints a tree's list, line by line.
+fn print_list(rt: &impl Print, tree: &[u8]) -> io::Result<()> {
     let mut line: [u8; LONGEST_LINE] = [0; LONGEST_LINE];
-    let written = listing::write_line(tree, k, &mut line);
-    let refusal = written.refusal;
-    if refusal::number(refusal) != 0 {
-        return false;
-    }
-    let length = written.length as usize;
-    if io::writer(rt).write_all(&line[..length]).is_ok() {
-        return true;
-    }
-    let _ = eprintln!(rt; "lister: the list cannot be written");
-    false
-}
-
-fn print_list(rt: &(impl Print + Eprint), tree: &[u8]) {
     for k in 0..u32::MAX {
-        if !print_line(rt, tree, k) {
-            return;
-        }
+        let Ok(length) = listing::write_line(tree, k, &mut line) else {
+            return Ok(());
+        };
+        io::writer(rt).write_all(&line[..length as usize])?;
     }
+    Ok(())
 }
 
 // Reads until the buffer is full or the input ends, and answers how many bytes it put at the buffer's front.
@@ -51,10 +39,11 @@ fn read_full(input: &mut impl Read, buffer: &mut [u8]) -> io::Result<usize>
 fn main(rt: HostRuntime) {
     // What follows the most bytes of a tree in the input changes no line, so that it is not read.
     let mut tree: [u8; LARGEST_TREE] = [0; LARGEST_TREE];
-    match read_full(&mut rt.stdin(), &mut tree) {
-        Ok(length) => print_list(&rt, &tree[..length]),
-        Err(_) => {
-            let _ = eprintln!(rt; "lister: the tree cannot be read");
-        }
+    let Ok(length) = read_full(&mut rt.stdin(), &mut tree) else {
+        let _ = eprintln!(rt; "lister: the tree cannot be read");
+        return;
+    };
+    if print_list(&rt, &tree[..length]).is_err() {
+        let _ = eprintln!(rt; "lister: the list cannot be written");
     }
 }
