@@ -70,10 +70,13 @@ def sources():
     return found
 
 
+BUILT_IN = {("", "len"), ("", "rev"), ("u64", "from"), ("", "into"), ("", "Ok"), ("", "Err")}
+
+
 def called(crate, text):
-    """What a function calls, but for the length of a slice."""
+    """What a function calls, but for what is built in: the length of a slice, a range backwards, a number widened, an answer or a refusal."""
     calls = re.findall(r"\b(?:(\w+)::)?(\w+)\(", text[text.index("(") :])
-    return [(path or crate, name) for path, name in calls if (path, name) != ("", "len")]
+    return [(path or crate, name) for path, name in calls if (path, name) not in BUILT_IN]
 
 
 def source_faults(known):
@@ -161,7 +164,7 @@ WRONG_SOURCES = [
     ("unit", "write_hex", "let mut rest = number;", "let mut digits: [u8; 16] = zeros(); let mut rest = number;"),
     ("unit", "write_hex", "characters::hex_digit(rest)", "characters::entries()[rest % 16]"),
     ("unit", "digit_count", "let mut count = 1;", "let mut count = [1];"),
-    ("unit", "write_unit", "write_hex(number as u64, buffer, 0)", "write_hex(number as u64, &mut [0; 8], 0)"),
+    ("unit", "write_unit", "write_hex(u64::from(number), buffer, 0)", "write_hex(number as u64, &mut [0; 8], 0)"),
     ("unit", "write_hex", "let mut rest = number;", "let mut text = Text::blank(); let mut rest = number;"),
 ]
 

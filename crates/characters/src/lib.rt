@@ -110,8 +110,6 @@ const TABLE: [u8; 256] = [
     16, 16, 16, 16, 16, 16, 16, 16, 16,
 ];
 
-const LOWER_DIGITS: [u8; 16] = *b"0123456789abcdef";
-
 // All entries of the table, to be laid out once for a run of characters.
 pub fn entries() -> [u8; 256]
     ensures { result ≡ character_table }
@@ -147,9 +145,15 @@ pub fn hex_value(b: u8) -> Option<u8>
     (value < 16).then_some(value)
 }
 
-// The lower-case hex digit of a number's last four bits.
+// The lower-case hex digit of a number's last four bits. It is made by arithmetic and not from a table of digits: the writer of unit text uses
+// no data of the archive (tests/stack).
 pub fn hex_digit(number: u64) -> u8
     ensures { result ≡ hex_digit number }
 {
-    LOWER_DIGITS[(number % 16) as usize]
+    let value = number % 16;
+    if value < 10 {
+        (48 + value) as u8
+    } else {
+        (87 + value) as u8
+    }
 }
