@@ -1,4 +1,5 @@
 -- Demand 1 of the parts of a block of tokens and of a feature, for all bytes and numbers. Assumes nothing.
+use Rattle.std.specs.Prelude.{Option}
 use Prim.Native.Nat.{ℕ, zero, suc, min}
 use mathlib.Core.Path.{◌≡◌, refl, sym, subst}
 use mathlib.Core.Bool.{Bool, true, false, ◌||◌}
@@ -16,7 +17,6 @@ use Rattle.tokens.specs.Steps.{pick, token_checks}
 use Rattle.tokens.specs.Tokens.{Token, begin_node, end_node, property, nop, end, fault, tokens}
 use Rattle.tokens.proofs.StepNumbers.{step-number}
 use Rattle.properties.specs.Properties.{among, name_at, name_fault, read_properties}
-use Rattle.positions.specs.declared.Position.{Position}
 use Rattle.positions.specs.Below.{first_that}
 use Rattle.positions.proofs.FirstLaws.{IsFirst, first-that}
 use Rattle.record.specs.Record.{most_features}
@@ -81,9 +81,9 @@ all_one : (ns : List ℕ) → is_one_of (0 ∷ ns) (first_among ns) ≡ true
 all_one [] = refl
 all_one (n ∷ ns) = one_more n ns (first_among ns) (all_one ns)
 
-module _ (phandles : List ℕ) (n phandle : ℕ) where
+module _ (phandles : List (Option ℕ)) (n phandle : ℕ) where
   -- the position found is the first that has it
-  found : {r : Position} → first_that (min n most_features) (is_at phandles phandle) ≡ r → IsFirst (min n most_features) (is_at phandles phandle) r
+  found : {r : Option ℕ} → first_that (min n most_features) (is_at phandles phandle) ≡ r → IsFirst (min n most_features) (is_at phandles phandle) r
   found e = subst (IsFirst (min n most_features) (is_at phandles phandle)) e (first-that (min n most_features) (is_at phandles phandle))
 
   pub of-feature : (c : FeatureCells) → Demand1Feature c phandles n phandle

@@ -1,5 +1,6 @@
 -- Two records that differ in the cells of one property which decides nothing: the same permitted positions, enabled positions and chains; and
 -- which of them are well formed. Assumes nothing.
+use Rattle.std.specs.Prelude.{Option}
 use Prim.Native.Nat.{ℕ, ◌+◌, ◌*◌, ◌/◌, ◌%◌, ◌^◌, ◌<◌}
 use mathlib.Core.Path.{◌≡◌, refl, sym, ap, ap₂, subst, ◌∙◌}
 use mathlib.Core.Bool.{Bool, true, false, true≢false, ◌&&◌}
@@ -12,7 +13,6 @@ use Rattle.positions.specs.Bits.{bit}
 use Rattle.positions.specs.Sets.{set_words, room, has, collect}
 use Rattle.positions.proofs.SetLaws.{collect-same}
 use Rattle.record.specs.declared.Record.{Record}
-use Rattle.record.specs.declared.Cell.{Cell}
 use Rattle.record.specs.declared.Property.{Property}
 use Rattle.record.specs.declared.Property.TheVariants.{Isa, UsablePrivilege, HvSupport, OsSupport, HfscrBitNr, FscrBitNr, HwcapBitNr, Phandle, Dependencies}
 use Rattle.record.specs.Record.{most_dependencies, highest_hwcap_bit, feature_at}
@@ -136,7 +136,7 @@ module _ (property : Property) (r s : Record) (b : ButCells property r s) (free 
   support-same enabled p q dp dq x =
       some_same r.count (λ (i : ℕ). has enabled i && low_bit (cell (feature_at r i) p) && is_number (cell (feature_at r i) q) x)
       (λ (i : ℕ). has enabled i && low_bit (cell (feature_at s i) p) && is_number (cell (feature_at s i) q) x)
-      (λ i l. ap₂ (λ (c d : Cell). has enabled i && low_bit c && is_number d x) (agree p dp i l) (agree q dq i l))
+      (λ i l. ap₂ (λ (c d : Option ℕ). has enabled i && low_bit c && is_number d x) (agree p dp i l) (agree q dq i l))
       ∙ ap (λ (n : ℕ). some n (λ (i : ℕ). has enabled i && low_bit (cell (feature_at s i) p) && is_number (cell (feature_at s i) q) x)) counts
 
   register-same : (level : ℕ) (enabled : List ℕ) (upper : ℕ) (p q : Property) → decides p ≡ true → decides q ≡ true → (granted : ℕ)
@@ -151,7 +151,7 @@ module _ (property : Property) (r s : Record) (b : ButCells property r s) (free 
     bits-same enabled x =
         some_same r.count (λ (i : ℕ). has enabled i && is_number (cell (feature_at r i) HwcapBitNr) x)
         (λ (i : ℕ). has enabled i && is_number (cell (feature_at s i) HwcapBitNr) x)
-        (λ i l. ap (λ (c : Cell). has enabled i && is_number c x) (b.cells i l HwcapBitNr apart))
+        (λ i l. ap (λ (c : Option ℕ). has enabled i && is_number c x) (b.cells i l HwcapBitNr apart))
         ∙ ap (λ (n : ℕ). some n (λ (i : ℕ). has enabled i && is_number (cell (feature_at s i) HwcapBitNr) x)) counts
 
     first-same : (level : ℕ) (enabled : List ℕ) → capability_word r level enabled ≡ capability_word s level enabled

@@ -1,4 +1,5 @@
 -- Demand 1, for all bytes and numbers. Assumes nothing.
+use Rattle.std.specs.Prelude.{Option, None, Some}
 use Prim.Native.Nat.{ℕ, ◌≤◌, min}
 use mathlib.Core.Path.{refl, sym, subst}
 use mathlib.Core.List.{List, [], ◌∷◌}
@@ -17,8 +18,6 @@ use Rattle.walk.specs.Checked.{no_layout}
 use Rattle.walk.specs.declared.Layout.{Layout}
 use Rattle.walk.specs.Faults.{CheckEnds, answered, header_refused, walk_refused}
 use Rattle.walk.proofs.CheckEnds.{check-ends, check-place}
-use Rattle.positions.specs.declared.Position.{Position}
-use Rattle.positions.specs.declared.Position.TheVariants.{Nowhere, At}
 use Rattle.stringlist.specs.StringList.{string_place}
 use Rattle.answers.specs.Answers.{place_outcome}
 use Rattle.positions.specs.Sets.{set_of, collect, no_members}
@@ -139,9 +138,9 @@ of-value value = record {
 of-list : (list text : List ℕ) → Demand1List list text
 of-list list text = record { place_ends = go (string_place list text) }
   where
-    go : (p : Position) → Ends (10 ∷ []) 0 (place_outcome p)
-    go (At i) = whole i
-    go Nowhere = refused 10 refl
+    go : (p : Option ℕ) → Ends (10 ∷ []) 0 (place_outcome p)
+    go (Some i) = whole i
+    go None = refused 10 refl
 
 -- a text, and a number that is written into a buffer
 module _ (text : List ℕ) (n : ℕ) (buffer : List ℕ) where

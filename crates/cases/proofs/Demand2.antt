@@ -1,4 +1,5 @@
 -- Demand 2, for all bytes and numbers. Assumes nothing.
+use Rattle.std.specs.Prelude.{Option}
 use Prim.Native.Nat.{ℕ, ◌<◌, ◌≤◌}
 use mathlib.Core.Path.{◌≡◌, refl, ap, ◌∙◌}
 use mathlib.Core.List.{List, [], ◌∷◌, map}
@@ -10,7 +11,6 @@ use Rattle.refusal.specs.Checks.{check, fault_of}
 use Rattle.refusal.proofs.Checks.{answered, passes, stops, next-decides, outcome-number, eq→eqb, tests}
 use Rattle.cells.specs.Cells.{word_at, cells_in}
 use Rattle.unit.proofs.Demand2.{number-text-number, eight-bytes, text-number-text, one-shortest}
-use Rattle.sizes.specs.declared.Size.{Size}
 use Rattle.sizes.specs.Sizes.{size_only, size_or_none, radix_size, no_sizes, size_checks, size_table, sizes}
 use Rattle.sizes.proofs.Accepted.{sizes-accepts, sizes-read, sizes-once, sizes-plain, without-gaps, places-read}
 use Rattle.segments.proofs.Accepted.{segments-accepts, segments-read, segments-once}
@@ -62,7 +62,7 @@ of-lookup cpu parent strings name = record {
 }
 
 module _ (value : List ℕ) where
-  of-sizes : (rule : ℕ → Size) → Demand2Sizes rule (sizes rule) value
+  of-sizes : (rule : ℕ → Option ℕ) → Demand2Sizes rule (sizes rule) value
   unfolding sizes
   of-sizes rule = record {
     accepted = sizes-accepts rule value;

@@ -1,5 +1,6 @@
 -- "Mask bits at or above the count are ignored in the first two", "`isa` filters nothing here", nor does a capability bit, and of `hv-support`
 -- and `os-support` "Only bit 0 .. counts": no answer tells. Assumes nothing.
+use Rattle.std.specs.Prelude.{Option, None}
 use Prim.Native.Nat.{ℕ, ◌<◌}
 use mathlib.Core.Path.{◌≡◌, refl, sym, ap, subst, ◌∙◌}
 use mathlib.Core.Bool.{Bool, true, false}
@@ -15,8 +16,6 @@ use Rattle.positions.specs.Sets.{set_words, room, has, collect, set_of, no_membe
 use Rattle.record.specs.declared.Record.{Record}
 use Rattle.record.specs.declared.Property.{Property}
 use Rattle.record.specs.declared.Property.TheVariants.{Isa, HwcapBitNr}
-use Rattle.record.specs.declared.Cell.{Cell}
-use Rattle.record.specs.declared.Cell.TheVariants.{Absent}
 use Rattle.record.specs.Record.{highest_hwcap_bit, feature_at}
 use Rattle.record.specs.Cells.{cell, low_bit}
 use Rattle.form.specs.Formed.{InRange}
@@ -183,7 +182,7 @@ module _ (r s : Record) (b : ButCells HwcapBitNr r s) (good : well_formed r ≡ 
   pub same-capability : well_formed s ≡ true → SameAnswers r s
   same-capability other = same-answers HwcapBitNr r s b refl (good ∙ sym other)
 
-  pub none-required : ((i : ℕ) → i < r.count → cell (feature_at s i) HwcapBitNr ≡ Absent) → well_formed s ≡ true
+  pub none-required : ((i : ℕ) → i < r.count → cell (feature_at s i) HwcapBitNr ≡ None) → well_formed s ≡ true
   none-required none =
       formed-passes s
       (formed-too HwcapBitNr r s b refl (formed r good)
@@ -191,12 +190,12 @@ module _ (r s : Record) (b : ButCells HwcapBitNr r s) (good : well_formed r ≡ 
 
 -- values of `hv-support` or `os-support` that differ in other bits than bit 0: what is asked of a feature is the same, and so is the test by
 -- which a record is well formed and a bit is set in a word
-pub same-support : {c d : Cell} → ButOtherBits c d → (number : Cell) (mask : ℕ) (own_code : Bool)
+pub same-support : {c d : Option ℕ} → ButOtherBits c d → (number : Option ℕ) (mask : ℕ) (own_code : Bool)
     → is_supported c number mask own_code ≡ is_supported d number mask own_code
 unfolding by_register
 same-support absent number mask own_code = refl
 same-support (given m n e) number mask own_code = rw e
 
-pub same-low-bit : {c d : Cell} → ButOtherBits c d → low_bit c ≡ low_bit d
+pub same-low-bit : {c d : Option ℕ} → ButOtherBits c d → low_bit c ≡ low_bit d
 same-low-bit absent = refl
 same-low-bit (given m n e) = e

@@ -1,4 +1,5 @@
 -- Demand 1 of looking a property up, for all blocks and names. Assumes nothing.
+use Rattle.std.specs.Prelude.{Option, None}
 use Prim.Native.Nat.{ℕ}
 use mathlib.Core.Path.{◌≡◌, refl, ap}
 use mathlib.Core.List.{List, [], ◌∷◌}
@@ -6,7 +7,6 @@ use mathlib.Core.Logic.{◌↔◌}
 use native.Mathlib.Omega.{arith}
 use lib.ListN.{length}
 use Rattle.lookup.specs.declared.Found.{Found}
-use Rattle.lookup.specs.declared.Found.TheVariants.{Nowhere}
 use Rattle.lookup.specs.Lookup.{lookup, part_of}
 use Rattle.lookup.specs.Reasons.{BlockFault, token, name, repeated, LookupEnds, in_cpu, in_parent, not_there, faulty}
 use Rattle.lookup.proofs.Reasons.{lookup-ends}
@@ -27,27 +27,27 @@ not-zero name z = omega arith
 not-zero repeated z = omega arith
 
 module _ (cpu parent strings sought : List ℕ) where
-  where-ends : {f : Found} {n : ℕ} → LookupEnds f n → Ends (6 ∷ 7 ∷ 9 ∷ 10 ∷ []) Nowhere (record { number = n; value = f })
+  where-ends : {f : Option Found} {n : ℕ} → LookupEnds f n → Ends (6 ∷ 7 ∷ 9 ∷ 10 ∷ []) None (record { number = n; value = f })
   where-ends in_cpu = answered _
   where-ends in_parent = answered _
   where-ends not_there = refused 10 refl
-  where-ends (faulty b) = faulty-ends Nowhere b
+  where-ends (faulty b) = faulty-ends None b
 
-  part-ends : {f : Found} {n : ℕ} → LookupEnds f n → Ends (6 ∷ 7 ∷ 9 ∷ 10 ∷ []) [] (record { number = n; value = part_of cpu parent f })
+  part-ends : {f : Option Found} {n : ℕ} → LookupEnds f n → Ends (6 ∷ 7 ∷ 9 ∷ 10 ∷ []) [] (record { number = n; value = part_of cpu parent f })
   unfolding part_of
   part-ends in_cpu = answered _
   part-ends in_parent = answered _
   part-ends not_there = refused 10 refl
   part-ends (faulty b) = faulty-ends [] b
 
-  find-ends : {f : Found} {n : ℕ} → LookupEnds f n → Ends (6 ∷ 7 ∷ 9 ∷ 10 ∷ []) no_part (record { number = n; value = part_in f })
+  find-ends : {f : Option Found} {n : ℕ} → LookupEnds f n → Ends (6 ∷ 7 ∷ 9 ∷ 10 ∷ []) no_part (record { number = n; value = part_in f })
   find-ends in_cpu = answered _
   find-ends in_parent = answered _
   find-ends not_there = refused 10 refl
   find-ends (faulty b) = faulty-ends no_part b
 
   -- the part of a property that is found has bytes
-  found_part : {f : Found} {n : ℕ} → LookupEnds f n → lookup cpu parent strings sought ≡ f → (n ≡ 0) ↔ (part_of cpu parent f ≡ [] → ⊥)
+  found_part : {f : Option Found} {n : ℕ} → LookupEnds f n → lookup cpu parent strings sought ≡ f → (n ≡ 0) ↔ (part_of cpu parent f ≡ [] → ⊥)
   unfolding part_of
   found_part in_cpu e = let p = in-cpu cpu parent strings sought e in (λ z q. omega (arith, p.head, p.long, ap length q), λ q. refl)
   found_part in_parent e = let p = in-parent cpu parent strings sought e in (λ z q. omega (arith, p.head, p.long, ap length q), λ q. refl)

@@ -1,5 +1,6 @@
 -- Programs that do not meet the demands, whatever else they do (document 01, "Promises about the outcome": "Try these against the promises").
 -- Assumes nothing.
+use Rattle.std.specs.Prelude.{None, Some}
 use Prim.Native.Nat.{ℕ, ◌≤◌, ◌<◌}
 use mathlib.Core.Path.{◌≡◌, refl, sym, ap, subst, ◌∙◌}
 use mathlib.Core.Bool.{true, false, true≢false}
@@ -25,7 +26,6 @@ use Rattle.positions.specs.Bits.{bit}
 use Rattle.positions.specs.Sets.{has}
 use Rattle.record.specs.declared.Record.{Record}
 use Rattle.record.specs.declared.Property.TheVariants.{HwcapBitNr}
-use Rattle.record.specs.declared.Cell.TheVariants.{Absent, Given}
 use Rattle.record.specs.Record.{feature_at}
 use Rattle.record.specs.Cells.{bit_of, held, cell, dependency_count}
 use Rattle.form.specs.WellFormed.{well_formed}
@@ -61,13 +61,13 @@ module _ (read : List ℕ → Placed Record) (d : (tree : List ℕ) → Demand2T
   pub turns-away : ((read older_tree).number ≡ 0 → ⊥) → ⊥
   turns-away f = f older-accepted
 
-  pub none-is-bit-0 : cell (feature_at (read older_tree).value 0) HwcapBitNr ≡ Given 0 → ⊥
+  pub none-is-bit-0 : cell (feature_at (read older_tree).value 0) HwcapBitNr ≡ Some 0 → ⊥
   unfolding older_record cell held bit_of bit
   none-is-bit-0 e =
       let h = (d older_tree).holds older-accepted in
       let k = read-holds older_tree (ap (λ (p : Placed Record). p.number) older-read) in
       let five : (read_record older_tree).value.count ≡ 5 = ap (λ (p : Placed Record). p.value.count) older-read in
-      let absent : cell (feature_at (read_record older_tree).value 0) HwcapBitNr ≡ Absent =
+      let absent : cell (feature_at (read_record older_tree).value 0) HwcapBitNr ≡ None =
       ap (λ (p : Placed Record). cell (feature_at p.value 0) HwcapBitNr) older-read in
       let same = sym e ∙ h.cells 0 (omega (arith, h.count, k.count)) HwcapBitNr ∙ sym (k.cells 0 (omega arith) HwcapBitNr) ∙ absent in
       let z : ◌≡◌ {A = ℕ} 0 1 = cc in
@@ -89,7 +89,7 @@ module _ (read : List ℕ → Placed Record) (d : (tree : List ℕ) → Demand2T
 
 -- a call for the words that sets a bit which is the number of no enabled feature, as bit 0 for those that have none
 pub bit-of-none : (told : Outcome WordValues) (r : Record) (level : ℕ) (g : Grants) → CapabilityWords told r level g
-    → ((i : ℕ) → i < r.count → cell (feature_at r i) HwcapBitNr ≡ Absent) → bit told.value.first 0 ≡ true → ⊥
+    → ((i : ℕ) → i < r.count → cell (feature_at r i) HwcapBitNr ≡ None) → bit told.value.first 0 ≡ true → ⊥
 bit-of-none told r level g c none on =
     let s = (c.first 0 (omega arith)).0 on in
     let z : ◌≡◌ {A = ℕ} 0 1 = cc (none s.position s.feature) in omega arith

@@ -1,11 +1,10 @@
 -- What is answered of a string in a list (A3). Assumes nothing.
+use Rattle.std.specs.Prelude.{Option, None, Some}
 use Prim.Native.Nat.{ℕ}
 use mathlib.Core.Path.{◌≡◌, refl, sym, ap, subst, ◌∙◌}
 use mathlib.Core.List.{List}
 use native.Mathlib.Omega.{arith}
 use Rattle.refusal.specs.Refusal.{Outcome, answer, refuse}
-use Rattle.positions.specs.declared.Position.{Position}
-use Rattle.positions.specs.declared.Position.TheVariants.{Nowhere, At}
 use Rattle.stringlist.specs.StringList.{strings_bytes, StandsFirst, string_place}
 use Rattle.stringlist.proofs.StringLaws.{are-strings, joined-strings}
 use Rattle.stringlist.proofs.Stands.{place-stands, stands-place, zero-nowhere, cut-nowhere, empty-nowhere, place_kept, repeated-later}
@@ -13,13 +12,13 @@ use Rattle.answers.specs.Answers.{place_outcome}
 use Rattle.cases.specs.Demand2.{Demand2List, find_string}
 
 -- the answer says the place, or that there is none
-told_at : (p : Position) {i : ℕ} → place_outcome p ≡ answer i → p ≡ At i
-told_at (At k) e = ap At (ap (λ (o : Outcome ℕ). o.value) e)
-told_at Nowhere e = let z : ◌≡◌ {A = ℕ} 10 0 = ap (λ (o : Outcome ℕ). o.number) e in absurd (omega arith)
+told_at : (p : Option ℕ) {i : ℕ} → place_outcome p ≡ answer i → p ≡ Some i
+told_at (Some k) e = ap Some (ap (λ (o : Outcome ℕ). o.value) e)
+told_at None e = let z : ◌≡◌ {A = ℕ} 10 0 = ap (λ (o : Outcome ℕ). o.number) e in absurd (omega arith)
 
-told_none : (p : Position) → place_outcome p ≡ refuse 0 10 → p ≡ Nowhere
-told_none (At k) e = let z : ◌≡◌ {A = ℕ} 0 10 = ap (λ (o : Outcome ℕ). o.number) e in absurd (omega arith)
-told_none Nowhere e = refl
+told_none : (p : Option ℕ) → place_outcome p ≡ refuse 0 10 → p ≡ None
+told_none (Some k) e = let z : ◌≡◌ {A = ℕ} 0 10 = ap (λ (o : Outcome ℕ). o.number) e in absurd (omega arith)
+told_none None e = refl
 
 pub of-list : (list text : List ℕ) → Demand2List find_string list text
 of-list list text = record {
@@ -34,5 +33,5 @@ of-list list text = record {
   repeated = λ strings t h i e. ap place_outcome (repeated-later strings t h (told_at (string_place (strings_bytes strings) t) e) text);
 }
   where
-    place : Position
+    place : Option ℕ
     place = string_place list text

@@ -1,4 +1,5 @@
 -- The numbers of the checks of a CPU node's tables. Assumes nothing.
+use Rattle.std.specs.Prelude.{Option, None, Some}
 use Prim.Native.Nat.{ℕ, zero, suc}
 use mathlib.Core.Path.{◌≡◌, refl}
 use mathlib.Core.Bool.{true}
@@ -6,8 +7,6 @@ use mathlib.Core.List.{List, [], ◌∷◌, ◌++◌, map}
 use lib.Dec.{ltb}
 use lib.ListN.{length}
 use Rattle.cells.specs.Cells.{cells_in}
-use Rattle.sizes.specs.declared.Size.{Size}
-use Rattle.sizes.specs.declared.Size.TheVariants.{Exponent, None}
 use Rattle.sizes.specs.Sizes.{place_checks, plain_checks, size_checks}
 use Rattle.segments.specs.Segments as segments
 use Rattle.attributes.specs.Attributes as attributes
@@ -17,13 +16,13 @@ use Rattle.cases.proofs.EndLaws.{all_one_of, both-one-of, where-one-of}
 abbrev pub size_numbers : List ℕ
 size_numbers = 8 ∷ 11 ∷ 12 ∷ 19 ∷ []
 
-cells-numbered : (last : Size) (places : List Size) → all_one_of size_numbers (place_checks last places) ≡ true
+cells-numbered : (last : Option ℕ) (places : List (Option ℕ)) → all_one_of size_numbers (place_checks last places) ≡ true
 unfolding place_checks
 cells-numbered last [] = refl
 cells-numbered last (None ∷ places) = cells-numbered last places
-cells-numbered last (Exponent e ∷ places) = cells-numbered (Exponent e) places
+cells-numbered last (Some e ∷ places) = cells-numbered (Some e) places
 
-pub sizes-numbered : (rule : ℕ → Size) (value : List ℕ) → all_one_of size_numbers (size_checks rule value) ≡ true
+pub sizes-numbered : (rule : ℕ → Option ℕ) (value : List ℕ) → all_one_of size_numbers (size_checks rule value) ≡ true
 unfolding size_checks plain_checks
 sizes-numbered rule value = both-one-of size_numbers (plain_checks rule value) _ (cells-numbered None (map rule (cells_in value))) refl
 

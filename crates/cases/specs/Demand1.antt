@@ -1,5 +1,6 @@
 -- Demand 1, in its own words: how each entry point ends, over the definitions that the promises cite. Lent bytes that are only read
 -- are kept by their type.
+use Rattle.std.specs.Prelude.{Option, None, Some}
 use Rattle.std.specs.Prelude.{ℕ, ◌<◌, min, ◌≡◌, true, false, List, [], ◌∷◌, ◌↔◌, length, get_or, replicate}
 use Rattle.refusal.specs.Refusal.{Outcome}
 use Rattle.cells.specs.Buffer.{Stays}
@@ -18,9 +19,7 @@ use Rattle.attributes.specs.Attributes.{most_bytes, no_attributes, pa_features, 
 use Rattle.header.specs.Header.{no_blocks, header}
 use Rattle.walk.specs.Checked.{no_layout, check_tree}
 use Rattle.lookup.specs.declared.Found.{Found}
-use Rattle.lookup.specs.declared.Found.TheVariants.{Nowhere}
 use Rattle.lookup.specs.Lookup.{lookup, reason, part_of}
-use Rattle.positions.specs.declared.Position.TheVariants.{Nowhere as NoPosition, At}
 use Rattle.positions.specs.Below.{first_that}
 use Rattle.positions.specs.Sets.{set_words}
 use Rattle.record.specs.declared.Record.{Record}
@@ -69,7 +68,7 @@ abbrev pub no_part : Part
 no_part = record { block = 0; offset = 0; length = 0 }
 
 -- what the calls of a look-up answer: the reason, with where the property is, and with the part
-abbrev pub where_found : List ℕ → List ℕ → List ℕ → List ℕ → Outcome Found
+abbrev pub where_found : List ℕ → List ℕ → List ℕ → List ℕ → Outcome (Option Found)
 where_found cpu parent strings name = record { number = reason cpu parent strings name; value = lookup cpu parent strings name }
 
 abbrev pub part_found : List ℕ → List ℕ → List ℕ → List ℕ → Outcome (List ℕ)
@@ -135,18 +134,18 @@ pub record Demand1Block (s : List ℕ) (stop : ℕ) (strings : List ℕ) (from l
   pub properties_end : (first : ℕ) → EndsAt (7 ∷ 9 ∷ []) 0 (read_properties stop [] (tokens s stop (name_at strings from limit) first))
 
 -- `refusal_of` and `carrier_below`: the cells of a feature as read, and a phandle
-pub record Demand1Feature (c : FeatureCells) (phandles : List ℕ) (n phandle : ℕ) : Type 0 where
+pub record Demand1Feature (c : FeatureCells) (phandles : List (Option ℕ)) (n phandle : ℕ) : Type 0 where
   -- 0, or the number of one of the cells
   pub cells_end : is_one_of (0 ∷ cell_numbers c) (refusal_of c) ≡ true
   -- "A phandle that isn't found is .. never a position": what `carrier_below` answers as a position is below the bound and has the
   -- phandle; where it answers nowhere, no position below the bound has it
-  pub carrier_has : (i : ℕ) → first_that (min n most_features) (is_at phandles phandle) ≡ At i → (i < n) × (is_at phandles phandle i ≡ true)
-  pub nowhere_none : first_that (min n most_features) (is_at phandles phandle) ≡ NoPosition
+  pub carrier_has : (i : ℕ) → first_that (min n most_features) (is_at phandles phandle) ≡ Some i → (i < n) × (is_at phandles phandle i ≡ true)
+  pub nowhere_none : first_that (min n most_features) (is_at phandles phandle) ≡ None
       → (i : ℕ) → i < min n most_features → is_at phandles phandle i ≡ false
 
 -- `find_property`, `property_part` and `lookup_reason`: "0 when it is found, else the reason: the walk's 6, 7 or 9, .. then 10"
 pub record Demand1Lookup (cpu parent strings name : List ℕ) : Type 0 where
-  pub where_ends : Ends (6 ∷ 7 ∷ 9 ∷ 10 ∷ []) Nowhere (where_found cpu parent strings name)
+  pub where_ends : Ends (6 ∷ 7 ∷ 9 ∷ 10 ∷ []) None (where_found cpu parent strings name)
   -- "the empty part when neither has it or either block doesn't read as properties"
   pub part_ends : Ends (6 ∷ 7 ∷ 9 ∷ 10 ∷ []) [] (part_found cpu parent strings name)
   -- the call of C, with the part in numbers
@@ -205,4 +204,4 @@ pub record Demand1 : Type 0 where
   pub texts : (text : List ℕ) (n : ℕ) (buffer : List ℕ) → Demand1Unit text n buffer
   pub lines : (tree : List ℕ) (k : ℕ) (buffer : List ℕ) → Demand1Line tree k buffer
   pub blocks : (s : List ℕ) (stop : ℕ) (strings : List ℕ) (from limit : ℕ) → Demand1Block s stop strings from limit
-  pub features : (c : FeatureCells) (phandles : List ℕ) (n phandle : ℕ) → Demand1Feature c phandles n phandle
+  pub features : (c : FeatureCells) (phandles : List (Option ℕ)) (n phandle : ℕ) → Demand1Feature c phandles n phandle

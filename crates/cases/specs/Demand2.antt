@@ -1,15 +1,14 @@
 -- Demand 2, in its own words: what is read of a tree, of a list of strings, of the values of a CPU node's properties and of unit text, over
 -- the definitions that the promises cite. Each request adds its field.
+use Rattle.std.specs.Prelude.{Option, None, Some}
 use Rattle.std.specs.Prelude.{ℕ, ◌-◌, ◌^◌, ◌≤◌, ◌<◌, max, ◌≡◌, true, List, [], ◌∷◌, ◌++◌, map, ◌↔◌, length, take}
 use Rattle.refusal.specs.Refusal.{Outcome, Placed, answer, refuse, refuse_at, fault}
 use Rattle.refusal.specs.Checks.{first_fault, fault_of}
 use Rattle.cells.specs.Cells.{word_at, cells_in}
 use Rattle.cells.specs.Bytes.{Each, IsByte}
-use Rattle.positions.specs.declared.Position.TheVariants.{Nowhere, At}
 use Rattle.stringlist.specs.StringList.{NotZero, strings_bytes, AreStrings, StandsFirst, strings_in, string_place}
 use Rattle.unit.specs.Unit.{read_unit, write_unit, text_written}
 use Rattle.unit.specs.Shortest.{Shortest}
-use Rattle.sizes.specs.declared.Size.{Size}
 use Rattle.sizes.specs.declared.SizeTable.{SizeTable}
 use Rattle.sizes.specs.Sizes.{no_size, size_only, size_or_none, radix_size, plain_checks, size_checks, size_table, no_sizes, page_sizes, segment_sizes}
 use Rattle.sizes.specs.SizeCells.{SizeCells, places_in}
@@ -31,7 +30,6 @@ use Rattle.walk.specs.Checked.{check_tree}
 use Rattle.walk.specs.TotalSize.{SameTree}
 use Rattle.strings.specs.Strings.{ended}
 use Rattle.names.specs.Names.{most_property_name, is_property_name}
-use Rattle.lookup.specs.declared.Found.TheVariants.{Nowhere as NotFound}
 use Rattle.lookup.specs.Lookup.{lookup, reason}
 use Rattle.lookup.specs.LooksUp.{LooksUp}
 use Rattle.record.specs.declared.Record.{Record}
@@ -79,14 +77,14 @@ pub record Demand2Tree (read : List ℕ → Placed Record) (tree : List ℕ) : T
 pub record Demand2Lookup (cpu parent strings name : List ℕ) : Type 0 where
   pub looks_up : LooksUp cpu parent strings name (lookup cpu parent strings name) (reason cpu parent strings name)
   -- what is no property name is not found, (A13) one of 64 characters or more in particular
-  pub no_name : (is_property_name (ended name) ≡ true → ⊥) → lookup cpu parent strings name ≡ NotFound
-  pub long_name : most_property_name < length name → lookup cpu parent strings name ≡ NotFound
+  pub no_name : (is_property_name (ended name) ≡ true → ⊥) → lookup cpu parent strings name ≡ None
+  pub long_name : most_property_name < length name → lookup cpu parent strings name ≡ None
 
 -- (A3) a string in a list, as it is answered of any list and text
 pub record Demand2List (find : List ℕ → List ℕ → Outcome ℕ) (list text : List ℕ) : Type 0 where
   -- "at which place of the list the string first stands, counted from 0, or that it doesn't stand there"
-  pub stands : (i : ℕ) → (find list text ≡ answer i) ↔ StandsFirst list text (At i)
-  pub stands_not : (find list text ≡ refuse 0 10) ↔ StandsFirst list text Nowhere
+  pub stands : (i : ℕ) → (find list text ≡ answer i) ↔ StandsFirst list text (Some i)
+  pub stands_not : (find list text ≡ refuse 0 10) ↔ StandsFirst list text None
   -- strings without zero bytes, each with its zero byte, are the strings of their bytes, and no others are
   pub found_again : (strings : List (List ℕ)) → Each (Each NotZero) strings → strings_in (strings_bytes strings) ≡ strings
   pub once : (a b : List (List ℕ)) → AreStrings list a → AreStrings list b → a ≡ b
@@ -103,7 +101,7 @@ pub record Demand2List (find : List ℕ → List ℕ → Outcome ℕ) (list text
 
 -- sizes in plain cells, by how one cell reads: accepted exactly when the bytes are those of 1 to 16 cells with sizes within bounds, strictly
 -- ascending, and these are then answered, each in its place; else the first check that does not hold refuses
-pub record Demand2Sizes (rule : ℕ → Size) (read : List ℕ → Outcome SizeTable) (value : List ℕ) : Type 0 where
+pub record Demand2Sizes (rule : ℕ → Option ℕ) (read : List ℕ → Outcome SizeTable) (value : List ℕ) : Type 0 where
   pub accepted : Each IsByte value → (read value).number ≡ 0 ↔ ((cells : List ℕ) × SizeCells rule cells value)
   pub answered : (cells : List ℕ) → SizeCells rule cells value → read value ≡ answer (size_table cells)
   pub once : (a b : List ℕ) → SizeCells rule a value → SizeCells rule b value → a ≡ b

@@ -1,11 +1,10 @@
 -- What grants, records and cells may differ in where no answer of the enabled set does (document 01, "Permitted and enabled").
+use Rattle.std.specs.Prelude.{Option, None, Some}
 use Rattle.std.specs.Prelude.{ℕ, ◌<◌, ◌≡◌, List}
 use Rattle.positions.specs.Bits.{bit}
 use Rattle.positions.specs.Sets.{has}
 use Rattle.record.specs.declared.Record.{Record}
 use Rattle.record.specs.declared.Property.{Property}
-use Rattle.record.specs.declared.Cell.{Cell}
-use Rattle.record.specs.declared.Cell.TheVariants.{Absent, Given}
 use Rattle.record.specs.Record.{feature_at}
 use Rattle.record.specs.Cells.{cell}
 use Rattle.permitted.specs.declared.Grants.{Grants}
@@ -38,6 +37,6 @@ pub record SameAnswers (r s : Record) : Type 0 where
   pub chain_bytes_alike : (level : ℕ) (g : Grants) (i : ℕ) (old : List ℕ) → after_chain r level g i old ≡ after_chain s level g i old
 
 -- "`hv-support`, `os-support`: .. Only bit 0 (HFSCR, FSCR) counts. Absent and zero differ": two values may differ in the other bits
-pub data ButOtherBits : Cell → Cell → Type 0 where
-  absent : ButOtherBits Absent Absent
-  given : (m n : ℕ) → bit m 0 ≡ bit n 0 → ButOtherBits (Given m) (Given n)
+pub data ButOtherBits : Option ℕ → Option ℕ → Type 0 where
+  absent : ButOtherBits None None
+  given : (m n : ℕ) → bit m 0 ≡ bit n 0 → ButOtherBits (Some m) (Some n)

@@ -63,11 +63,7 @@ fn put_rows(out: &mut impl Write, record: Record) -> io::Result<()> {
 pub(crate) fn record(out: &mut impl Write, value: &[u8]) -> io::Result<bool> {
     let (outcome, place, record) = match reader::read_record(value) {
         Ok(record) => (Ok(()), 0, record),
-        Err(refused) => (
-            Err(refused.refusal),
-            refused.place,
-            reader::no_features(),
-        ),
+        Err(refused) => (Err(refused.refusal), refused.place, reader::no_features()),
     };
     put_start(out, b'r', outcome)?;
     put_number(out, place as u64)?;
