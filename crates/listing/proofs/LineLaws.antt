@@ -148,9 +148,6 @@ module _ (tree : List ℕ) (k : ℕ) (out : List ℕ) where
     long : length (line_at tree k) ≡ new.length
     long = let w = (composed c accepted).1 in omega (arith, w.reached)
 
-    pub line-short : new.length ≤ length new.bytes
-    line-short = let w = (composed c accepted).1 in omega (arith, w.reached, w.room, w.size)
-
     pub write-short : length out < new.length → Ends (refuse 0 18) out
     unfolding write_line after_line line_checks
     write-short s =

@@ -23,7 +23,7 @@ use Rattle.reading.proofs.Dependencies.{read-holds}
 use Rattle.listing.specs.Digits.{decimal}
 use Rattle.listing.specs.Listing.{enabled_in, words_in, line_end, numbered, worded, head_line, state_text, feature_line, words_line, refused_line, listing, line_at, longest_line}
 use Rattle.listing.specs.Parts.{name_in, IsRead}
-use Rattle.listing.proofs.DigitLaws.{decimal_most, length_digits}
+use Rattle.listing.proofs.DigitLaws.{decimal_most, decimal_short, length_digits}
 use Rattle.listing.proofs.TokenLaws.{all-behind, named-all, value-among, IsPart, Named, tokens-named}
 use Rattle.listing.proofs.StateLaws.{read-few, feature_fits}
 use Rattle.listing.proofs.LineLaws.{refused-lines, lines-count, head-is, feature-is, words-is}
@@ -80,9 +80,10 @@ module _ (tree : List ℕ) (all : Bytes tree) where
     head-short : length (head_line r) ≤ longest_line
     unfolding head_line member_count
     head-short =
-        let a = decimal_most 9 r.isa (omega (arith, isa-low z)) in
-        let b = decimal_most 1 r.count (omega (arith, read-few read)) in
-        let c = decimal_most 1 (member_count (enabled_in r)) (omega (arith, count-bound room (has (enabled_in r)))) in
+        let a = decimal_most 10 r.isa (omega (arith, isa-low z)) (omega (arith, isa-low z)) (omega arith) in
+        let b = decimal_most 2 r.count (omega (arith, read-few read)) (omega (arith, read-few read)) (omega arith) in
+        let m = count-bound room (has (enabled_in r)) in
+        let c = decimal_most 2 (member_count (enabled_in r)) (omega (arith, m)) (omega (arith, m)) (omega arith) in
         omega (
           arith,
           length-append (numbered "isa " r.isa ++ numbered " features " r.count ++ numbered " enabled "
@@ -137,8 +138,8 @@ module _ (tree : List ℕ) (all : Bytes tree) where
   refused-short ne few zero =
       let n = (read_record tree).number in
       let p = (read_record tree).place in
-      let a = decimal_most 1 n (omega (arith, read-number tree)) in
-      let b = decimal_most 19 p (omega (arith, read-place tree)) in
+      let a = decimal_most 2 n (omega (arith, read-number tree)) (omega (arith, read-number tree)) (omega arith) in
+      let b = decimal_short p (omega (arith, read-place tree)) in
       omega (
         arith,
         ap (λ (ls : List (List ℕ)). length (get_or ls 0 [])) (refused-lines tree ne),

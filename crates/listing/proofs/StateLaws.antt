@@ -215,7 +215,7 @@ module _ {tree : List ℕ} {r : Record} (read : IsRead tree r) where
     pub feature_fits : FeatureFits tree r i
     feature_fits = record {
       low = omega (arith, read-few);
-      digits = decimal_most 1 i (omega (arith, read-few));
+      digits = decimal_most 2 i (omega (arith, read-few)) (omega (arith, read-few)) (omega arith);
       name = rw (name-same read i low) (name-short read i low);
       state = rw state-names state-short;
     }

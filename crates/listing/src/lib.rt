@@ -122,7 +122,7 @@ impl Accepted<'_> {
     // The name of the feature at a position.
     fn name(&self, i: usize) -> &[u8]
         requires { i < self.now.record.count }
-        ensures { (result.now ≡ name_in self.now.tree.now self.now.record i) × (length-of result.now ≤ 63) }
+        ensures { (result.now ≡ name_in self.now.tree.now self.now.record i) × (length-of result.now ≤ MOST_NODE_NAME) }
     {
         let from = self.record.features[i].offset as usize + 4;
         match strings::text_end(self.tree, from, self.tree.len()) {
@@ -133,7 +133,7 @@ impl Accepted<'_> {
 
     // Puts the names of the features at some positions, with `>` between them.
     fn put_names(&self, line: &mut Line, positions: &[u8])
-        requires { Room line.old (64 * length-of positions.now)
+        requires { Room line.old (length-of positions.now * (MOST_NODE_NAME + 1))
             × EachIndex positions.now (λ j. slice_index positions.now j < self.now.record.count) }
         ensures { Puts line.old (joined (map (name_in self.now.tree.now self.now.record) positions.now)) line.new }
     {
@@ -149,7 +149,7 @@ impl Accepted<'_> {
 
     // Puts whether a feature is on, and its chain where it is not.
     fn put_state(&self, line: &mut Line, i: u32)
-        requires { (i < self.now.record.count) × Room line.old 4101 }
+        requires { (i < self.now.record.count) × Room line.old (5 + MOST_FEATURES * (MOST_NODE_NAME + 1)) }
         ensures { Puts line.old (state_text (name_in self.now.tree.now self.now.record) self.now.record i) line.new }
     {
         let mut positions: [u8; MOST_FEATURES] = [0; MOST_FEATURES];
