@@ -26,6 +26,7 @@ fn read_full(input: &mut impl Read, buffer: &mut [u8]) -> io::Result<usize>
     ensures { IfOk result (λ n. n ≤ length buffer.old) }
 {
     let mut done = 0;
+    // No `for`: each read moves the place on by as many bytes as it gave.
     while done < buffer.len() {
         let got = input.read(&mut buffer[done..])?;
         if got == 0 {

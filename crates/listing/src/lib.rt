@@ -100,7 +100,7 @@ impl Line {
     }
 
     #[tactic(auto, using(crate::proofs::DigitLaws::decimal_short))]
-    fn put_refused(&mut self, at: RefusedAt)
+    fn put_refusal(&mut self, at: RefusedAt)
         requires { self.old.length ≡ 0 }
         ensures { Puts self.old (refused_line (number_of at.refusal) at.place) self.new }
     {
@@ -228,7 +228,7 @@ fn compose(line: &mut Line, tree: &[u8], k: u32) -> Result<(), Refusal>
         Ok(record) => Accepted { tree, record }.put_line(line, k),
         Err(_) if k != 0 => Err(Refusal::Position),
         Err(at) => {
-            line.put_refused(at);
+            line.put_refusal(at);
             Ok(())
         }
     }

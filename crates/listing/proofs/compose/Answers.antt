@@ -11,4 +11,4 @@ returns-in-Err c = refused-past _ (is-refused _ _ c.in-Err.ensures) c.if-k-ne0.t
 pub returns-in-Err-2 : goal.returns-in-Err-2
 returns-in-Err-2 c =
     let e = c.in-Err.ensures in
-    refused-first _ (is-refused _ _ e) c.if-k-ne0.false (number_is _ _ e) (place_is _ _ e) c.put_refused.ensures
+    refused-first _ (is-refused _ _ e) c.if-k-ne0.false (number_is _ _ e) (place_is _ _ e) c.put_refusal.ensures

@@ -1,9 +1,9 @@
--- `listing::Line::put_refused` meets its contract.
+-- `listing::Line::put_refusal` meets its contract.
 use mathlib.Core.Path.{ap, ◌∙◌}
 use Prim.Native.Nat.{ℕ}
 use Rattle.listing.specs.Listing.{refused_line}
 use Rattle.listing.proofs.PutLaws.{put_then, put_as}
-use Rattle.listing.proofs.Line.put_refused.Goals as goal
+use Rattle.listing.proofs.Line.put_refusal.Goals as goal
 
 pub returns : goal.returns
 unfolding refused_line
