@@ -70,13 +70,14 @@ def sources():
     return found
 
 
-BUILT_IN = {("", "len"), ("", "rev"), ("u64", "from"), ("", "into"), ("", "Ok"), ("", "Err")}
+BUILT_IN = {("", "len"), ("", "rev"), ("u64", "from"), ("", "Ok"), ("", "Err")}
 
 
 def called(crate, text):
-    """What a function calls, but for what is built in: the length of a slice, a range backwards, a number widened, an answer or a refusal."""
+    """What a function calls, but for what is built in: the length of a slice, a range backwards, a number widened, an answer or a refusal.
+    A `u32` is made from a refusal."""
     calls = re.findall(r"\b(?:(\w+)::)?(\w+)\(", text[text.index("(") :])
-    return [(path or crate, name) for path, name in calls if (path, name) not in BUILT_IN]
+    return [("refusal" if path == "u32" else path or crate, name) for path, name in calls if (path, name) not in BUILT_IN]
 
 
 def source_faults(known):

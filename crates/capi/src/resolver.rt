@@ -11,13 +11,18 @@ ghost use Rattle.capi.specs.Answers.{form_number};
 use answers::{YebkuzanEnabled, YebkuzanPermitted, YebkuzanReach, YebkuzanWords, YebkuzanWritten};
 use permitted::Grants;
 use record::Record;
+use refusal::Refusal;
 use tables::Rows;
 
 // Whether a record is well formed: 0, or 14.
 pub fn yebkuzan_well_formed(r: Record) -> u32
     ensures { result ≡ form_number r }
 {
-    if form::well_formed(r) { 0 } else { 14 }
+    if form::well_formed(r) {
+        0
+    } else {
+        u32::from(Refusal::RecordForm)
+    }
 }
 
 // The permitted features of a record at a level under grants: 14, 15.

@@ -23,7 +23,7 @@ pub fn yebkuzan_write_unit(unit: u32, out: &mut [u8]) -> YebkuzanWritten
             length: length as u32,
         },
         Err(refusal) => YebkuzanWritten {
-            number: refusal.into(),
+            number: u32::from(refusal),
             length: 0,
         },
     }

@@ -188,12 +188,14 @@ pub fn repeated_name(tree: &[u8], b: Blocks, fs: ChildPlaces) -> Option<usize>
         (min fs.count most_features) }
 {
     let count = fs.count.min(MOST_FEATURES);
-    for (i, p) in fs.places[..count].iter().enumerate() {
+    let mut found = None;
+    'search: for (i, p) in fs.places[..count].iter().enumerate() {
         for q in &fs.places[..i] {
             if matching::same_name(tree, q.name, p.name, b.end) {
-                return Some(i);
+                found = Some(i);
+                break 'search;
             }
         }
     }
-    None // no name is repeated
+    found
 }

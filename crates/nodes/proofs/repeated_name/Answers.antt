@@ -8,15 +8,16 @@ use Rattle.nodes.proofs.repeated_name.Goals as goal
 
 pub loop-q-preserved : goal.loop-q-preserved
 loop-q-preserved c =
-    let i : c.loop-i.i < c.min-count.result = omega (arith, length-take c.min-count.result c.args.fs.places) in
-    let j : c.loop-q.q-index < c.loop-i.i = omega (arith, length-take c.loop-i.i c.args.fs.places) in
-    row_more _ _ c.loop-q.invariant j (same-is _ _ _ i j c.same_name.ensures ∙ c.if-same_name.false)
+    let i : c.search.i < c.min-count.result = omega (arith, length-take c.min-count.result c.args.fs.places) in
+    let j : c.loop-q.q-index < c.search.i = omega (arith, length-take c.search.i c.args.fs.places) in
+    (c.loop-q.invariant.0, row_more _ _ c.loop-q.invariant.1 j (same-is _ _ _ i j c.same_name.ensures ∙ c.if-same_name.false))
 
 pub returns-then-same_name : goal.returns-then-same_name
 returns-then-same_name c =
-    let i : c.loop-i.i < c.min-count.result = omega (arith, length-take c.min-count.result c.args.fs.places) in
-    let j : c.loop-q.q-index < c.loop-i.i = omega (arith, length-take c.loop-i.i c.args.fs.places) in
-    search-found _ _ _ c.loop-q.invariant j (same-is _ _ _ i j c.same_name.ensures ∙ c.if-same_name.true)
+    let i : c.search.i < c.min-count.result = omega (arith, length-take c.min-count.result c.args.fs.places) in
+    let j : c.loop-q.q-index < c.search.i = omega (arith, length-take c.search.i c.args.fs.places) in
+    search-found _ _ _ c.loop-q.invariant.1 j (same-is _ _ _ i j c.same_name.ensures ∙ c.if-same_name.true)
 
-pub returns : goal.returns
-returns c = search-none _ _ c.loop-i.invariant (omega (arith, length-take c.min-count.result c.args.fs.places))
+pub returns-after-search : goal.returns-after-search
+returns-after-search c =
+    c.search.invariant.0 ∙ search-none _ _ c.search.invariant.1 (omega (arith, length-take c.min-count.result c.args.fs.places))
