@@ -1,0 +1,18 @@
+-- `reader::tree::Tree::resolve_feature` meets its contract. Assumes nothing.
+use Rattle.reader.proofs.PropertyLaws.{count}
+use Rattle.reader.proofs.CellSlotLaws.{no-dependencies, dependencies-lie}
+use native.Mathlib.Omega.{arith}
+use Rattle.reader.proofs.tree.Tree.resolve_feature.Goals as goal
+
+pub resolve_cells-requires : goal.resolve_cells-requires
+resolve_cells-requires c =
+    let m = rw c.in-Some.is at c.value.ensures in
+    (omega (arith, m.within), c.requires.0, omega (arith, count m))
+
+pub returns-in-None : goal.returns-in-None
+returns-in-None c = no-dependencies _ _ _ _ (rw c.in-None.is at c.value.ensures)
+
+pub returns-in-Some : goal.returns-in-Some
+returns-in-Some c =
+    let m = rw c.in-Some.is at c.value.ensures in
+    dependencies-lie _ _ _ _ _ _ m c.resolve_cells.ensures
