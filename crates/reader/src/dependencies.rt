@@ -1,10 +1,10 @@
 // Dependencies: each phandle becomes the position of the feature that carries it.
 ghost use Rattle.std.specs.Prelude.{◌≡◌, ◌+◌, ◌*◌, ◌≤◌, length as length-of, replicate};
-ghost use Rattle.record.specs.Record.{most_features, slot_count};
+ghost use Rattle.record.specs.Record.{slot_count};
 ghost use Rattle.reader.specs.Parts.{RoomFor, ResolvesCells, ResolvesFeature, SomeKnown, ResolvesAll};
 
+use crate::phandles::Phandles;
 use crate::tree::Tree;
-use feature::carrier_below;
 use nodes::ChildPlaces;
 use record::{MOST_DEPENDENCIES, MOST_FEATURES, SLOTS};
 use refusal::{Refusal, RefusedAt};
@@ -16,18 +16,17 @@ impl Tree<'_> {
         &self,
         from: usize,
         n: usize,
-        phandles: &[Option<u32>; MOST_FEATURES],
-        count: usize,
+        phandles: &Phandles,
         slots: &mut [u16; SLOTS],
         at: usize,
     ) -> Result<(), Refusal>
-        requires { (from + 4 * n ≤ length-of self.now.bytes.now) × (count ≤ most_features) × (at + n ≤ slot_count) }
+        requires { (from + 4 * n ≤ length-of self.now.bytes.now) × (at + n ≤ slot_count) }
         ensures { ResolvesCells
             self.now.bytes.now
             from
             n
-            phandles.now
-            count
+            phandles.now.noted.now
+            phandles.now.count
             at
             slots.old
             slots.new
@@ -35,7 +34,7 @@ impl Tree<'_> {
     {
         for j in 0..n {
             let phandle = cells::cell_at(self.bytes, from + 4 * j);
-            let carrier = carrier_below(phandles, count, phandle).ok_or(Refusal::UnknownPhandle)?;
+            let carrier = phandles.carrier(phandle).ok_or(Refusal::UnknownPhandle)?;
             slots[at + j] = carrier as u16;
         }
         Ok(())
@@ -45,18 +44,17 @@ impl Tree<'_> {
     fn resolve_feature(
         &self,
         first: usize,
-        phandles: &[Option<u32>; MOST_FEATURES],
-        count: usize,
+        phandles: &Phandles,
         slots: &mut [u16; SLOTS],
         at: usize,
     ) -> Result<(), Refusal>
-        requires { (count ≤ most_features) × RoomFor self.now.bytes.now self.now.blocks first at }
+        requires { RoomFor self.now.bytes.now self.now.blocks first at }
         ensures { ResolvesFeature
             self.now.bytes.now
             self.now.blocks
             first
-            phandles.now
-            count
+            phandles.now.noted.now
+            phandles.now.count
             at
             slots.old
             slots.new
@@ -64,14 +62,7 @@ impl Tree<'_> {
     {
         match self.value(first, b"dependencies") {
             None => Ok(()),
-            Some(value) => self.resolve_cells(
-                value.from,
-                value.length / 4,
-                phandles,
-                count,
-                slots,
-                at,
-            ),
+            Some(value) => self.resolve_cells(value.from, value.length / 4, phandles, slots, at),
         }
     }
 
@@ -85,8 +76,12 @@ impl Tree<'_> {
         requires { SomeKnown self.now.bytes.now self.now.blocks fs phandles.now × (slots.old ≡ replicate slot_count 0) }
         ensures { ResolvesAll self.now.bytes.now self.now.blocks fs phandles.now slots.new result }
     {
+        let carriers = Phandles {
+            noted: phandles,
+            count: fs.count,
+        };
         for (i, p) in fs.places[..fs.count].iter().enumerate() {
-            self.resolve_feature(p.behind, phandles, fs.count, slots, MOST_DEPENDENCIES * i)
+            self.resolve_feature(p.behind, &carriers, slots, MOST_DEPENDENCIES * i)
                 .map_err(|refusal| refusal.at(p.at))?;
         }
         Ok(())

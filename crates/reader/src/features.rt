@@ -17,10 +17,9 @@ ghost use Rattle.reader.specs.Parts.{
 };
 
 use crate::cell::at_most;
+use crate::phandles::Phandles;
 use crate::tree::Tree;
-use feature::{
-    BitCells, CellRead, FeatureCells, SupportCells, carrier_below, no_feature, try_feature_of,
-};
+use feature::{BitCells, CellRead, FeatureCells, SupportCells, no_feature, try_feature_of};
 use nodes::{ChildPlaces, NodePlace};
 use record::{Feature, HIGHEST_FSCR_BIT, HIGHEST_HFSCR_BIT, HIGHEST_HWCAP_BIT, MOST_FEATURES};
 use refusal::{Refusal, RefusedAt};
@@ -29,15 +28,9 @@ use refusal::{Refusal, RefusedAt};
 const ALL_ONES: u32 = 0xffffffff;
 
 impl Tree<'_> {
-    // A phandle: neither 0 nor all ones, and not one that a feature below `n` carries.
-    fn read_phandle(
-        &self,
-        first: usize,
-        phandles: &[Option<u32>; MOST_FEATURES],
-        n: usize,
-    ) -> CellRead
-        requires { n ≤ most_features }
-        ensures { PhandleIs phandles.now n (value_in (bytes "phandle") (tree_tokens self.now.bytes.now self.now.blocks first)) result }
+    // A phandle: neither 0 nor all ones, and not one that a feature before carries.
+    fn read_phandle(&self, first: usize, phandles: &Phandles) -> CellRead
+        ensures { PhandleIs phandles.now.noted.now phandles.now.count (value_in (bytes "phandle") (tree_tokens self.now.bytes.now self.now.blocks first)) result }
     {
         let Some(phandle) = self.read_cell(first, b"phandle", false)? else {
             return Ok(None);
@@ -45,7 +38,7 @@ impl Tree<'_> {
         if phandle == 0 || phandle == ALL_ONES {
             return Err(Refusal::OutOfRange);
         }
-        if carrier_below(phandles, n, phandle).is_some() {
+        if phandles.carrier(phandle).is_some() {
             return Err(Refusal::Repeated);
         }
         Ok(Some(phandle))
@@ -77,21 +70,15 @@ impl Tree<'_> {
     }
 
     // All properties of a feature, each by itself.
-    fn read_cells(
-        &self,
-        first: usize,
-        phandles: &[Option<u32>; MOST_FEATURES],
-        n: usize,
-    ) -> FeatureCells
-        requires { n ≤ most_features }
-        ensures { CellsAre (tree_tokens self.now.bytes.now self.now.blocks first) phandles.now n result }
+    fn read_cells(&self, first: usize, phandles: &Phandles) -> FeatureCells
+        ensures { CellsAre (tree_tokens self.now.bytes.now self.now.blocks first) phandles.now.noted.now phandles.now.count result }
     {
         let support = self.read_support(first);
         FeatureCells {
             isa: self.read_cell(first, b"isa", true),
             support,
             bits: self.read_bits(first, support),
-            phandle: self.read_phandle(first, phandles, n),
+            phandle: self.read_phandle(first, phandles),
             dependencies: self.read_count(first),
         }
     }
@@ -106,7 +93,11 @@ impl Tree<'_> {
         requires { (i < most_features) × (p.at ≤ largest_tree) }
         ensures { ReadsFeature self.now.bytes.now self.now.blocks p phandles.old phandles.new i result }
     {
-        let cells = self.read_cells(p.behind, &*phandles, i);
+        let before = Phandles {
+            noted: &*phandles,
+            count: i,
+        };
+        let cells = self.read_cells(p.behind, &before);
         phandles[i] = cells.phandle.unwrap_or(None);
         try_feature_of(p.at as u32, cells)
     }

@@ -4,6 +4,7 @@
 mod cell;
 mod dependencies;
 mod features;
+mod phandles;
 mod tree;
 
 ghost use Rattle.std.specs.Prelude.{◌≡◌};

@@ -26,11 +26,11 @@ unwrap-first-requires c = contents-found (walked c.requires) c.if-found-ne1.fals
 
 pub returns-in_err-isa : goal.returns-in_err-isa
 returns-in_err-isa c =
-    let first = next-at _ _ _ (sym c.behind.ensures ∙ c.unwrap-first.ensures) in
     let err = was_err _ c.container_isa.result c.map_err.result c.map_err.ensures.cases c.in_err-isa.was in
     let p = err_from_is_err_and c.from_residual.result c.from_residual.ensures.1 in
     let k = err.2 in
     let e : p.0 ≡ refused_at err.0 c.args.found.first = p.2 ∙ search (rules, k) in
+    let first = next-at _ _ _ (sym c.behind.ensures ∙ c.unwrap-first.ensures) in
     rw (p.1, e) (container-refused (walked c.requires) c.if-found-ne1.false first err.0 (rw err.1 at c.container_isa.ensures))
 
 pub read_children-requires : goal.read_children-requires

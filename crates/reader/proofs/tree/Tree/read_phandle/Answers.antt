@@ -1,7 +1,6 @@
 -- `reader::tree::Tree::read_phandle` meets its contract. Assumes nothing.
 use mathlib.Core.Path.{refl, sym, ◌∙◌}
 use mathlib.Core.Logic.{inl, inr}
-use native.Mathlib.Omega.{arith}
 use Rattle.std.proofs.lemmas.Result.{err_from_is_err_and}
 use Rattle.reader.proofs.PhandleLaws.{is-first}
 use Rattle.reader.proofs.PhandleReadLaws.{phandle-refused, phandle-out, phandle-again, phandle-new}
@@ -20,11 +19,11 @@ returns-then-phandle-eq0 c =
 pub returns-then-is_some : goal.returns-then-is_some
 returns-then-is_some c =
     let h = rw (c.in_ok-phandle.was, c.in-Some.is) at c.read_cell.ensures in
-    phandle-again h c.if-phandle-eq0.false c.if-phandle.false _ _ (is-first _ (omega arith) c.carrier_below.ensures refl)
+    phandle-again h c.if-phandle-eq0.false c.if-phandle.false _ _ (is-first _ _ c.carrier.ensures refl)
     (sym c.is_some.ensures ∙ c.if-is_some.true)
 
 pub returns : goal.returns
 returns c =
     let h = rw (c.in_ok-phandle.was, c.in-Some.is) at c.read_cell.ensures in
-    phandle-new h c.if-phandle-eq0.false c.if-phandle.false _ _ (is-first _ (omega arith) c.carrier_below.ensures refl)
+    phandle-new h c.if-phandle-eq0.false c.if-phandle.false _ _ (is-first _ _ c.carrier.ensures refl)
     (sym c.is_some.ensures ∙ c.if-is_some.false)

@@ -13,23 +13,23 @@ loop-j-init c = cells-begin _ _ _ _ _ _ _
 
 pub returns-in_err-carrier : goal.returns-in_err-carrier
 returns-in_err-carrier c =
-    let none : c.carrier_below.result ≡ None = grind arith in
+    let none : c.carrier.result ≡ None = grind arith in
     let p = err_from_is_err_and c.from_residual.result c.from_residual.ensures.1 in
     let e : p.0 ≡ UnknownPhandle = grind arith in
     rw (p.1, e)
-    (cells-fail _ _ _ _ _ _ _ c.loop-j.invariant (omega arith) c.cell_at-phandle.ensures (is-first _ (omega arith) c.carrier_below.ensures none))
+    (cells-fail _ _ _ _ _ _ _ c.loop-j.invariant (omega arith) c.cell_at-phandle.ensures (is-first _ _ c.carrier.ensures none))
 
 pub overflow_cast-slots : goal.overflow_cast-slots
 overflow_cast-slots c =
-    let some : c.carrier_below.result ≡ Some c.in_ok-carrier.carrier = grind arith in
-    let f = is-first _ (omega arith) c.carrier_below.ensures some in
+    let some : c.carrier.result ≡ Some c.in_ok-carrier.carrier = grind arith in
+    let f = is-first _ _ c.carrier.ensures some in
     omega (arith, f.0)
 
 pub loop-j-preserved : goal.loop-j-preserved
 loop-j-preserved c =
-    let some : c.carrier_below.result ≡ Some c.in_ok-carrier.carrier = grind arith in
+    let some : c.carrier.result ≡ Some c.in_ok-carrier.carrier = grind arith in
     cells-more _ _ _ _ _ _ _ c.loop-j.invariant (omega arith) c.cell_at-phandle.ensures
-    (is-first _ (omega arith) c.carrier_below.ensures some) (omega arith)
+    (is-first _ _ c.carrier.ensures some) (omega arith)
 
 pub returns : goal.returns
 returns c = cells-resolved _ _ _ _ _ _ _ c.loop-j.invariant (omega arith)

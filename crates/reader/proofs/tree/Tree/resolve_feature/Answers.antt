@@ -6,13 +6,13 @@ use Rattle.reader.proofs.tree.Tree.resolve_feature.Goals as goal
 
 pub resolve_cells-requires : goal.resolve_cells-requires
 resolve_cells-requires c =
-    let m = rw c.in-Some.is at c.value.ensures in
-    (omega (arith, m.within), c.requires.0, omega (arith, count m))
+    let m = c.in-Some.ensures in
+    (omega (arith, m.within), omega (arith, count m))
 
 pub returns-in-None : goal.returns-in-None
-returns-in-None c = no-dependencies _ _ _ _ (rw c.in-None.is at c.value.ensures)
+returns-in-None c = no-dependencies _ _ _ _ c.in-None.ensures
 
 pub returns-in-Some : goal.returns-in-Some
 returns-in-Some c =
-    let m = rw c.in-Some.is at c.value.ensures in
+    let m = c.in-Some.ensures in
     dependencies-lie _ _ _ _ _ _ m c.resolve_cells.ensures

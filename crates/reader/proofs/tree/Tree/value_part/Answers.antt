@@ -5,16 +5,16 @@ use Rattle.reader.proofs.tree.Tree.value_part.Goals as goal
 
 pub overflow_add-result : goal.overflow_add-result
 overflow_add-result c =
-    let m = rw c.in-Some.is at c.value.ensures in
+    let m = c.in-Some.ensures in
     omega (arith, m.within)
 
 pub slice_bounds-result-end-in-Some : goal.slice_bounds-result-end-in-Some
 slice_bounds-result-end-in-Some c =
-    let m = rw c.in-Some.is at c.value.ensures in
+    let m = c.in-Some.ensures in
     omega (arith, m.within)
 
 pub returns-in-None : goal.returns-in-None
-returns-in-None c = part-missing (rw c.in-None.is at c.value.ensures)
+returns-in-None c = part-missing c.in-None.ensures
 
 pub returns-in-Some : goal.returns-in-Some
-returns-in-Some c = part-given (rw c.in-Some.is at c.value.ensures)
+returns-in-Some c = part-given c.in-Some.ensures
