@@ -6,13 +6,10 @@ use Rattle.reader.proofs.tree.Tree.resolve_feature.Goals as goal
 
 pub resolve_cells-requires : goal.resolve_cells-requires
 resolve_cells-requires c =
-    let m = c.in-Some.ensures in
-    (omega (arith, m.within), omega (arith, count m))
+    (omega (arith, c.in-Some.ensures.within), omega (arith, count c.in-Some.ensures))
 
 pub returns-in-None : goal.returns-in-None
 returns-in-None c = no-dependencies _ _ _ _ c.in-None.ensures
 
 pub returns-in-Some : goal.returns-in-Some
-returns-in-Some c =
-    let m = c.in-Some.ensures in
-    dependencies-lie _ _ _ _ _ _ m c.resolve_cells.ensures
+returns-in-Some c = dependencies-lie _ _ _ _ _ _ c.in-Some.ensures c.resolve_cells.ensures
