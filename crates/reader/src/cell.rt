@@ -1,13 +1,12 @@
 // Properties of one cell.
 ghost use Rattle.std.specs.Prelude.{◌≡◌};
 ghost use Rattle.characters.specs.Characters.{bytes};
-ghost use Rattle.walk.specs.Walk.{tree_tokens};
 ghost use Rattle.nodes.specs.Values.{value_in};
 ghost use Rattle.record.specs.Cells.{low_bit};
 ghost use Rattle.feature.specs.Feature.{cell_from};
 ghost use Rattle.reader.specs.Parts.{CellIs, at_most, CountIs, BitIs};
 
-use crate::tree::Tree;
+use crate::tree::Contents;
 use feature::CellRead;
 use record::{MOST_DEPENDENCIES, low_bit};
 use refusal::Refusal;
@@ -22,12 +21,14 @@ pub(crate) fn at_most(c: CellRead, high: u32) -> CellRead
     }
 }
 
-impl Tree<'_> {
-    // The property of a name, one cell, among those that begin at `first`; `needed` where it must be given.
-    pub(crate) fn read_cell(&self, first: usize, name: &[u8], needed: bool) -> CellRead
-        ensures { CellIs needed (value_in name.now (tree_tokens self.now.bytes.now self.now.blocks first)) result }
+impl Contents<'_> {
+    ghost use Rattle.reader.specs.Contents.{tokens_of};
+
+    // The property of a name, one cell; `needed` where it must be given.
+    pub(crate) fn read_cell(&self, name: &[u8], needed: bool) -> CellRead
+        ensures { CellIs needed (value_in name.now (tokens_of self.now)) result }
     {
-        let Some(value) = self.value(first, name) else {
+        let Some(value) = self.value(name) else {
             return if needed {
                 Err(Refusal::PropertyForm)
             } else {
@@ -37,32 +38,26 @@ impl Tree<'_> {
         if value.length != 4 {
             return Err(Refusal::PropertyForm);
         }
-        Ok(Some(cells::cell_at(self.bytes, value.from)))
+        Ok(Some(cells::cell_at(self.tree.bytes, value.from)))
     }
 
     // A bit number, at most `highest`, needed where bit 0 of a support cell is set.
-    pub(crate) fn read_bit(
-        &self,
-        first: usize,
-        name: &[u8],
-        support: CellRead,
-        highest: u32,
-    ) -> CellRead
+    pub(crate) fn read_bit(&self, name: &[u8], support: CellRead, highest: u32) -> CellRead
         ensures { BitIs
             highest
             (low_bit (cell_from support))
-            (value_in name.now (tree_tokens self.now.bytes.now self.now.blocks first))
+            (value_in name.now (tokens_of self.now))
             result }
     {
         let needed = low_bit(support.unwrap_or(None));
-        at_most(self.read_cell(first, name, needed), highest)
+        at_most(self.read_cell(name, needed), highest)
     }
 
     // The number of a node's dependencies: whole cells, at most sixteen.
-    pub(crate) fn read_count(&self, first: usize) -> CellRead
-        ensures { CountIs (value_in (bytes "dependencies") (tree_tokens self.now.bytes.now self.now.blocks first)) result }
+    pub(crate) fn read_count(&self) -> CellRead
+        ensures { CountIs (value_in (bytes "dependencies") (tokens_of self.now)) result }
     {
-        let Some(value) = self.value(first, b"dependencies") else {
+        let Some(value) = self.value(b"dependencies") else {
             return Ok(None);
         };
         if value.length % 4 != 0 {

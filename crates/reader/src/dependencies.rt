@@ -4,12 +4,12 @@ ghost use Rattle.record.specs.Record.{slot_count};
 ghost use Rattle.reader.specs.Parts.{RoomFor, ResolvesCells, ResolvesFeature, SomeKnown, ResolvesAll};
 
 use crate::phandles::Phandles;
-use crate::tree::Tree;
+use crate::tree::{Contents, Tree};
 use nodes::ChildPlaces;
 use record::{MOST_DEPENDENCIES, MOST_FEATURES, SLOTS};
 use refusal::{Refusal, RefusedAt};
 
-impl Tree<'_> {
+impl Contents<'_> {
     // The `n` phandles that begin at `from`, each as the position of the feature that carries it, into the slots from `at` on; refused where
     // no feature carries one.
     fn resolve_cells(
@@ -20,9 +20,9 @@ impl Tree<'_> {
         slots: &mut [u16; SLOTS],
         at: usize,
     ) -> Result<(), Refusal>
-        requires { (from + 4 * n ≤ length-of self.now.bytes.now) × (at + n ≤ slot_count) }
+        requires { (from + 4 * n ≤ length-of self.now.tree.bytes.now) × (at + n ≤ slot_count) }
         ensures { ResolvesCells
-            self.now.bytes.now
+            self.now.tree.bytes.now
             from
             n
             phandles.now.noted.now
@@ -33,26 +33,25 @@ impl Tree<'_> {
             result }
     {
         for j in 0..n {
-            let phandle = cells::cell_at(self.bytes, from + 4 * j);
+            let phandle = cells::cell_at(self.tree.bytes, from + 4 * j);
             let carrier = phandles.carrier(phandle).ok_or(Refusal::UnknownPhandle)?;
             slots[at + j] = carrier as u16;
         }
         Ok(())
     }
 
-    // The dependencies of a feature whose properties begin at `first`, into the slots from `at` on.
+    // The dependencies of a feature, into the slots from `at` on.
     fn resolve_feature(
         &self,
-        first: usize,
         phandles: &Phandles,
         slots: &mut [u16; SLOTS],
         at: usize,
     ) -> Result<(), Refusal>
-        requires { RoomFor self.now.bytes.now self.now.blocks first at }
+        requires { RoomFor self.now.tree.bytes.now self.now.tree.blocks self.now.first at }
         ensures { ResolvesFeature
-            self.now.bytes.now
-            self.now.blocks
-            first
+            self.now.tree.bytes.now
+            self.now.tree.blocks
+            self.now.first
             phandles.now.noted.now
             phandles.now.count
             at
@@ -60,12 +59,14 @@ impl Tree<'_> {
             slots.new
             result }
     {
-        match self.value(first, b"dependencies") {
+        match self.value(b"dependencies") {
             None => Ok(()),
             Some(value) => self.resolve_cells(value.from, value.length / 4, phandles, slots, at),
         }
     }
+}
 
+impl Tree<'_> {
     // Document 01: "one flat run of 1,024 dependency slots", filled sixteen to a feature.
     pub(crate) fn resolve(
         &self,
@@ -81,7 +82,12 @@ impl Tree<'_> {
             count: fs.count,
         };
         for (i, p) in fs.places[..fs.count].iter().enumerate() {
-            self.resolve_feature(p.behind, &carriers, slots, MOST_DEPENDENCIES * i)
+            let contents = Contents {
+                tree: *self,
+                first: p.behind,
+            };
+            contents
+                .resolve_feature(&carriers, slots, MOST_DEPENDENCIES * i)
                 .map_err(|refusal| refusal.at(p.at))?;
         }
         Ok(())

@@ -3,7 +3,6 @@ ghost use Rattle.std.specs.Prelude.{[], ◌≤◌, ◌<◌};
 ghost use Rattle.characters.specs.Characters.{bytes};
 ghost use Rattle.header.specs.Header.{largest_tree};
 ghost use Rattle.record.specs.Record.{most_features};
-ghost use Rattle.walk.specs.Walk.{tree_tokens};
 ghost use Rattle.nodes.specs.Values.{value_in};
 ghost use Rattle.reader.specs.Parts.{
   PhandleIs,
@@ -18,7 +17,7 @@ ghost use Rattle.reader.specs.Parts.{
 
 use crate::cell::at_most;
 use crate::phandles::Phandles;
-use crate::tree::Tree;
+use crate::tree::{Contents, Tree};
 use feature::{BitCells, CellRead, FeatureCells, SupportCells, no_feature, try_feature_of};
 use nodes::{ChildPlaces, NodePlace};
 use record::{Feature, HIGHEST_FSCR_BIT, HIGHEST_HFSCR_BIT, HIGHEST_HWCAP_BIT, MOST_FEATURES};
@@ -27,12 +26,14 @@ use refusal::{Refusal, RefusedAt};
 // Neither this nor 0 is a phandle.
 const ALL_ONES: u32 = 0xffffffff;
 
-impl Tree<'_> {
+impl Contents<'_> {
+    ghost use Rattle.reader.specs.Contents.{tokens_of};
+
     // A phandle: neither 0 nor all ones, and not one that a feature before carries.
-    fn read_phandle(&self, first: usize, phandles: &Phandles) -> CellRead
-        ensures { PhandleIs phandles.now.noted.now phandles.now.count (value_in (bytes "phandle") (tree_tokens self.now.bytes.now self.now.blocks first)) result }
+    fn read_phandle(&self, phandles: &Phandles) -> CellRead
+        ensures { PhandleIs phandles.now.noted.now phandles.now.count (value_in (bytes "phandle") (tokens_of self.now)) result }
     {
-        let Some(phandle) = self.read_cell(first, b"phandle", false)? else {
+        let Some(phandle) = self.read_cell(b"phandle", false)? else {
             return Ok(None);
         };
         if phandle == 0 || phandle == ALL_ONES {
@@ -45,44 +46,43 @@ impl Tree<'_> {
     }
 
     // Who may use a feature, and its supports.
-    fn read_support(&self, first: usize) -> SupportCells
-        ensures { SupportIs (tree_tokens self.now.bytes.now self.now.blocks first) result }
+    fn read_support(&self) -> SupportCells
+        ensures { SupportIs (tokens_of self.now) result }
     {
         SupportCells {
-            usable_privilege: self.read_cell(first, b"usable-privilege", true),
-            hv_support: self.read_cell(first, b"hv-support", false),
-            os_support: self.read_cell(first, b"os-support", false),
+            usable_privilege: self.read_cell(b"usable-privilege", true),
+            hv_support: self.read_cell(b"hv-support", false),
+            os_support: self.read_cell(b"os-support", false),
         }
     }
 
     // A feature's bit numbers: those of HFSCR and FSCR by its supports, that of a capability, which may be missing.
-    fn read_bits(&self, first: usize, s: SupportCells) -> BitCells
-        ensures { BitsAre (tree_tokens self.now.bytes.now self.now.blocks first) s result }
+    fn read_bits(&self, s: SupportCells) -> BitCells
+        ensures { BitsAre (tokens_of self.now) s result }
     {
         BitCells {
-            hfscr_bit_nr: self.read_bit(first, b"hfscr-bit-nr", s.hv_support, HIGHEST_HFSCR_BIT),
-            fscr_bit_nr: self.read_bit(first, b"fscr-bit-nr", s.os_support, HIGHEST_FSCR_BIT),
-            hwcap_bit_nr: at_most(
-                self.read_cell(first, b"hwcap-bit-nr", false),
-                HIGHEST_HWCAP_BIT,
-            ),
+            hfscr_bit_nr: self.read_bit(b"hfscr-bit-nr", s.hv_support, HIGHEST_HFSCR_BIT),
+            fscr_bit_nr: self.read_bit(b"fscr-bit-nr", s.os_support, HIGHEST_FSCR_BIT),
+            hwcap_bit_nr: at_most(self.read_cell(b"hwcap-bit-nr", false), HIGHEST_HWCAP_BIT),
         }
     }
 
     // All properties of a feature, each by itself.
-    fn read_cells(&self, first: usize, phandles: &Phandles) -> FeatureCells
-        ensures { CellsAre (tree_tokens self.now.bytes.now self.now.blocks first) phandles.now.noted.now phandles.now.count result }
+    fn read_cells(&self, phandles: &Phandles) -> FeatureCells
+        ensures { CellsAre (tokens_of self.now) phandles.now.noted.now phandles.now.count result }
     {
-        let support = self.read_support(first);
+        let support = self.read_support();
         FeatureCells {
-            isa: self.read_cell(first, b"isa", true),
+            isa: self.read_cell(b"isa", true),
             support,
-            bits: self.read_bits(first, support),
-            phandle: self.read_phandle(first, phandles),
-            dependencies: self.read_count(first),
+            bits: self.read_bits(support),
+            phandle: self.read_phandle(phandles),
+            dependencies: self.read_count(),
         }
     }
+}
 
+impl Tree<'_> {
     // The feature at a place, the one at position `i`, by the phandles of those before it; its own is noted.
     fn read_feature(
         &self,
@@ -97,7 +97,11 @@ impl Tree<'_> {
             noted: &*phandles,
             count: i,
         };
-        let cells = self.read_cells(p.behind, &before);
+        let contents = Contents {
+            tree: *self,
+            first: p.behind,
+        };
+        let cells = contents.read_cells(&before);
         phandles[i] = cells.phandle.unwrap_or(None);
         try_feature_of(p.at as u32, cells)
     }

@@ -11,7 +11,6 @@ ghost use Rattle.std.specs.Prelude.{◌≡◌};
 ghost use Rattle.refusal.specs.Refusal.{placed};
 ghost use Rattle.record.specs.Record.{no_features};
 ghost use Rattle.walk.specs.Checked.{check_tree};
-ghost use Rattle.walk.specs.Walk.{tree_tokens};
 ghost use Rattle.nodes.specs.Values.{value_in, bytes_of};
 ghost use Rattle.reading.specs.Reading.{read_accepted, read_record};
 ghost use Rattle.reader.specs.Outcome.{read_outcome};
@@ -28,38 +27,42 @@ use feature::{CellRead, no_feature};
 use nodes::{ChildPlaces, behind, child_places, repeated_name};
 use record::{MOST_FEATURES, Record, SLOTS};
 use refusal::{Refusal, RefusedAt};
-use tree::Tree;
+use tree::{Contents, Tree};
 use walk::Containers;
 
-impl Tree<'_> {
+impl Contents<'_> {
+    ghost use Rattle.reader.specs.Contents.{tokens_of};
+
     // The bytes of a property's value; none where it is missing.
-    fn value_part(&self, first: usize, name: &[u8]) -> &[u8]
-        ensures { result.now ≡ bytes_of (value_in name.now (tree_tokens self.now.bytes.now self.now.blocks first)) }
+    fn value_part(&self, name: &[u8]) -> &[u8]
+        ensures { result.now ≡ bytes_of (value_in name.now (tokens_of self.now)) }
     {
-        match self.value(first, name) {
+        match self.value(name) {
             None => &[],
-            Some(value) => &self.bytes[value.from..value.from + value.length],
+            Some(value) => &self.tree.bytes[value.from..value.from + value.length],
         }
     }
 
-    // Whether the `device_type` and `compatible` of a node whose contents begin at `first` are a container's.
-    fn is_container(&self, first: usize) -> bool
-        ensures { result ≡ is_container (tree_tokens self.now.bytes.now self.now.blocks first) }
+    // Whether the `device_type` and `compatible` of a node are a container's.
+    fn is_container(&self) -> bool
+        ensures { result ≡ is_container (tokens_of self.now) }
     {
-        container::is_container_type(self.value_part(first, b"device_type"))
-            && container::is_container_compatible(self.value_part(first, b"compatible"))
+        container::is_container_type(self.value_part(b"device_type"))
+            && container::is_container_compatible(self.value_part(b"compatible"))
     }
 
-    // The `isa` of a container whose contents begin at `first`, after its `device_type` and `compatible`.
-    fn container_isa(&self, first: usize) -> CellRead
-        ensures { ReadsContainer self.now.bytes.now self.now.blocks first result }
+    // The `isa` of a container, after its `device_type` and `compatible`.
+    fn container_isa(&self) -> CellRead
+        ensures { ReadsContainer self.now.tree.bytes.now self.now.tree.blocks self.now.first result }
     {
-        if !self.is_container(first) {
+        if !self.is_container() {
             return Err(Refusal::PropertyForm);
         }
-        self.read_cell(first, b"isa", true)
+        self.read_cell(b"isa", true)
     }
+}
 
+impl Tree<'_> {
     // The features at some places with all that they hold.
     fn read_places(&self, isa: u32, fs: ChildPlaces) -> Result<Record, RefusedAt>
         requires { SomeContainer self.now.bytes.now self.now.blocks isa fs }
@@ -106,8 +109,9 @@ impl Tree<'_> {
         }
         // The walk noted the container by its name, which ends.
         let first = behind(self.bytes, self.blocks.end, found.first + 4).unwrap();
-        let isa = self
-            .container_isa(first)
+        let contents = Contents { tree: *self, first };
+        let isa = contents
+            .container_isa()
             .map_err(|refusal| refusal.at(found.first))?;
         self.read_children(isa.unwrap_or(0), first)
     }

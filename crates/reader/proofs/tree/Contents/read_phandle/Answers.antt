@@ -1,10 +1,10 @@
--- `reader::tree::Tree::read_phandle` meets its contract. Assumes nothing.
+-- `reader::tree::Contents::read_phandle` meets its contract. Assumes nothing.
 use mathlib.Core.Path.{refl, sym, ◌∙◌}
 use mathlib.Core.Logic.{inl, inr}
 use Rattle.std.proofs.lemmas.Result.{err_from_is_err_and}
 use Rattle.reader.proofs.PhandleLaws.{is-first}
 use Rattle.reader.proofs.PhandleReadLaws.{phandle-refused, phandle-out, phandle-again, phandle-new}
-use Rattle.reader.proofs.tree.Tree.read_phandle.Goals as goal
+use Rattle.reader.proofs.tree.Contents.read_phandle.Goals as goal
 
 pub returns-in_err-phandle : goal.returns-in_err-phandle
 returns-in_err-phandle c =

@@ -1,8 +1,8 @@
--- `reader::tree::Tree::read_bit` meets its contract. Assumes nothing.
+-- `reader::tree::Contents::read_bit` meets its contract. Assumes nothing.
 use mathlib.Core.Path.{ap, ◌∙◌}
 use Rattle.record.specs.Cells.{low_bit}
 use Rattle.reader.proofs.RangeLaws.{cell-or, bit_is}
-use Rattle.reader.proofs.tree.Tree.read_bit.Goals as goal
+use Rattle.reader.proofs.tree.Contents.read_bit.Goals as goal
 
 pub returns : goal.returns
 returns c =

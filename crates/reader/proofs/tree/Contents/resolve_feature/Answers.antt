@@ -1,8 +1,8 @@
--- `reader::tree::Tree::resolve_feature` meets its contract. Assumes nothing.
+-- `reader::tree::Contents::resolve_feature` meets its contract. Assumes nothing.
 use Rattle.reader.proofs.PropertyLaws.{count}
 use Rattle.reader.proofs.CellSlotLaws.{no-dependencies, dependencies-lie}
 use native.Mathlib.Omega.{arith}
-use Rattle.reader.proofs.tree.Tree.resolve_feature.Goals as goal
+use Rattle.reader.proofs.tree.Contents.resolve_feature.Goals as goal
 
 pub resolve_cells-requires : goal.resolve_cells-requires
 resolve_cells-requires c =

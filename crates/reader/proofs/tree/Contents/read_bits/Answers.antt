@@ -1,6 +1,6 @@
--- `reader::tree::Tree::read_bits` meets its contract. Assumes nothing.
+-- `reader::tree::Contents::read_bits` meets its contract. Assumes nothing.
 use Rattle.reader.proofs.RangeLaws.{number_is}
-use Rattle.reader.proofs.tree.Tree.read_bits.Goals as goal
+use Rattle.reader.proofs.tree.Contents.read_bits.Goals as goal
 
 pub returns : goal.returns
 returns c = record {

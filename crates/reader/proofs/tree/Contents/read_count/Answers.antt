@@ -1,6 +1,6 @@
--- `reader::tree::Tree::read_count` meets its contract. Assumes nothing.
+-- `reader::tree::Contents::read_count` meets its contract. Assumes nothing.
 use Rattle.reader.proofs.PropertyLaws.{count-missing, count-ragged, count-many, count-few}
-use Rattle.reader.proofs.tree.Tree.read_count.Goals as goal
+use Rattle.reader.proofs.tree.Contents.read_count.Goals as goal
 
 pub returns-in_default : goal.returns-in_default
 returns-in_default c = count-missing c.in_default.ensures

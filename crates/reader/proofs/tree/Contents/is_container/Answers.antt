@@ -1,6 +1,6 @@
--- `reader::tree::Tree::is_container` meets its contract. Assumes nothing.
+-- `reader::tree::Contents::is_container` meets its contract. Assumes nothing.
 use Rattle.reader.specs.Parts.{is_container}
-use Rattle.reader.proofs.tree.Tree.is_container.Goals as goal
+use Rattle.reader.proofs.tree.Contents.is_container.Goals as goal
 
 pub returns-then-is_container_type : goal.returns-then-is_container_type
 unfolding is_container

@@ -1,6 +1,6 @@
--- `reader::tree::Tree::read_cell` meets its contract. Assumes nothing.
+-- `reader::tree::Contents::read_cell` meets its contract. Assumes nothing.
 use Rattle.reader.proofs.CellReadLaws.{cell-given, cell-long, cell-missing, cell-absent}
-use Rattle.reader.proofs.tree.Tree.read_cell.Goals as goal
+use Rattle.reader.proofs.tree.Contents.read_cell.Goals as goal
 
 pub returns-then-needed : goal.returns-then-needed
 returns-then-needed c = cell-missing c.in_default.ensures c.if-needed.true

@@ -1,4 +1,4 @@
--- `reader::tree::Tree::resolve_cells` meets its contract. Assumes nothing.
+-- `reader::tree::Contents::resolve_cells` meets its contract. Assumes nothing.
 use mathlib.Core.Path.{◌≡◌}
 use native.Mathlib.Omega.{arith}
 use Rattle.std.specs.Prelude.{None, Some}
@@ -6,7 +6,7 @@ use Rattle.std.proofs.lemmas.Result.{err_from_is_err_and}
 use Rattle.refusal.specs.declared.Refusal.TheVariants.{UnknownPhandle}
 use Rattle.reader.proofs.PhandleLaws.{is-first}
 use Rattle.reader.proofs.CellSlotLaws.{cells-begin, cells-resolved, cells-more, cells-fail}
-use Rattle.reader.proofs.tree.Tree.resolve_cells.Goals as goal
+use Rattle.reader.proofs.tree.Contents.resolve_cells.Goals as goal
 
 pub loop-j-init : goal.loop-j-init
 loop-j-init c = cells-begin _ _ _ _ _ _ _
