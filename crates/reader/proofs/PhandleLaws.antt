@@ -2,7 +2,7 @@
 use mathlib.Core.Path.{◌≡◌, refl, sym, ap, subst, ◌∙◌}
 use mathlib.Core.Bool.{Bool}
 use mathlib.Core.List.{List}
-use Prim.Native.Nat.{ℕ, ◌<◌, ◌≤◌, min}
+use Prim.Native.Nat.{ℕ, ◌<◌}
 use native.Mathlib.Omega.{arith}
 use lib.ListN.{length, get_or}
 use Rattle.std.specs.Prelude.{Option, None, Some}
@@ -30,11 +30,9 @@ noted-carries phandles nodes h p i k =
     ∙ ap (is_phandle p) (row-node noted_of most_features None nodes i k)
     ∙ noted-value (value_of (node_at nodes i) "phandle") p
 
--- what the search answers is the first; of 64 features or fewer, all are looked at
-pub is-first : (test : ℕ → Bool) {n : ℕ} {r x : Option ℕ} → n ≤ most_features → r ≡ first_that (min n most_features) test → r ≡ x → IsFirst n test x
-is-first test {n} h e k =
-    let m : min n most_features ≡ n = omega arith in
-    subst (IsFirst n test) (sym e ∙ k) (rw m (first-that n test))
+-- what the search answers is the first
+pub is-first : (test : ℕ → Bool) (n : ℕ) {r x : Option ℕ} → r ≡ first_that n test → r ≡ x → IsFirst n test x
+is-first test n e k = subst (IsFirst n test) (sym e ∙ k) (first-that n test)
 
 -- two tests that agree
 first-same : (n : ℕ) (p q : ℕ → Bool) → ((i : ℕ) → i < n → p i ≡ q i) → (r : Option ℕ) → IsFirst n p r → IsFirst n q r

@@ -1,35 +1,15 @@
 // Properties of one cell.
-ghost use Rattle.std.specs.Prelude.{◌≡◌, ◌≤◌, length as length-of};
+ghost use Rattle.std.specs.Prelude.{◌≡◌};
 ghost use Rattle.characters.specs.Characters.{bytes};
-ghost use Rattle.walk.specs.Walk.{tree_tokens};
 ghost use Rattle.nodes.specs.Values.{value_in};
 ghost use Rattle.record.specs.Cells.{low_bit};
 ghost use Rattle.feature.specs.Feature.{cell_from};
 ghost use Rattle.reader.specs.Parts.{CellIs, at_most, CountIs, BitIs};
 
+use crate::tree::Contents;
 use feature::CellRead;
-use header::Blocks;
-use nodes::value_of;
 use record::{MOST_DEPENDENCIES, low_bit};
 use refusal::Refusal;
-
-// The property of a name, one cell, among those that begin at `first`; `needed` where it must be given.
-pub(crate) fn read_cell(tree: &[u8], b: Blocks, first: usize, name: &[u8], needed: bool) -> CellRead
-    requires { b.end ≤ length-of tree.now }
-    ensures { CellIs needed (value_in name.now (tree_tokens tree.now b first)) result }
-{
-    let Some(value) = value_of(tree, b, first, name) else {
-        return if needed {
-            Err(Refusal::PropertyForm)
-        } else {
-            Ok(None)
-        };
-    };
-    if value.length != 4 {
-        return Err(Refusal::PropertyForm);
-    }
-    Ok(Some(cells::cell_at(tree, value.from)))
-}
 
 // A cell, refused where its number is above `high`.
 pub(crate) fn at_most(c: CellRead, high: u32) -> CellRead
@@ -41,40 +21,52 @@ pub(crate) fn at_most(c: CellRead, high: u32) -> CellRead
     }
 }
 
-// A bit number, at most `highest`, needed where bit 0 of a support cell is set.
-pub(crate) fn read_bit(
-    tree: &[u8],
-    b: Blocks,
-    first: usize,
-    name: &[u8],
-    support: CellRead,
-    highest: u32,
-) -> CellRead
-    requires { b.end ≤ length-of tree.now }
-    ensures { BitIs
-        highest
-        (low_bit (cell_from support))
-        (value_in name.now (tree_tokens tree.now b first))
-        result }
-{
-    let needed = low_bit(support.unwrap_or(None));
-    at_most(read_cell(tree, b, first, name, needed), highest)
-}
+impl Contents<'_> {
+    ghost use Rattle.reader.specs.Contents.{tokens_of};
 
-// The number of a node's dependencies: whole cells, at most sixteen.
-pub(crate) fn read_count(tree: &[u8], b: Blocks, first: usize) -> CellRead
-    requires { b.end ≤ length-of tree.now }
-    ensures { CountIs (value_in (bytes "dependencies") (tree_tokens tree.now b first)) result }
-{
-    let Some(value) = value_of(tree, b, first, b"dependencies") else {
-        return Ok(None);
-    };
-    if value.length % 4 != 0 {
-        return Err(Refusal::PropertyForm);
+    // The property of a name, one cell; `needed` where it must be given.
+    pub(crate) fn read_cell(&self, name: &[u8], needed: bool) -> CellRead
+        ensures { CellIs needed (value_in name.now (tokens_of self.now)) result }
+    {
+        let Some(value) = self.value(name) else {
+            return if needed {
+                Err(Refusal::PropertyForm)
+            } else {
+                Ok(None)
+            };
+        };
+        if value.length != 4 {
+            return Err(Refusal::PropertyForm);
+        }
+        Ok(Some(cells::cell_at(self.tree.bytes, value.from)))
     }
-    let n = value.length / 4;
-    if MOST_DEPENDENCIES < n {
-        return Err(Refusal::TooMany);
+
+    // A bit number, at most `highest`, needed where bit 0 of a support cell is set.
+    pub(crate) fn read_bit(&self, name: &[u8], support: CellRead, highest: u32) -> CellRead
+        ensures { BitIs
+            highest
+            (low_bit (cell_from support))
+            (value_in name.now (tokens_of self.now))
+            result }
+    {
+        let needed = low_bit(support.unwrap_or(None));
+        at_most(self.read_cell(name, needed), highest)
     }
-    Ok(Some(n as u32))
+
+    // The number of a node's dependencies: whole cells, at most sixteen.
+    pub(crate) fn read_count(&self) -> CellRead
+        ensures { CountIs (value_in (bytes "dependencies") (tokens_of self.now)) result }
+    {
+        let Some(value) = self.value(b"dependencies") else {
+            return Ok(None);
+        };
+        if value.length % 4 != 0 {
+            return Err(Refusal::PropertyForm);
+        }
+        let n = value.length / 4;
+        if MOST_DEPENDENCIES < n {
+            return Err(Refusal::TooMany);
+        }
+        Ok(Some(n as u32))
+    }
 }
