@@ -13,7 +13,7 @@ use permitted::Grants;
 use positions::Set;
 use record::{MOST_FEATURES, Record, SLOTS};
 use refusal::Refusal;
-use tables::TABLE_WORDS;
+use tables::{Graph, TABLE_WORDS};
 
 // What sweeps leave of the permitted set, the set itself first: the first `held` of these layers hold a position, and the next does not.
 #[derive(Clone, Copy)]
@@ -127,17 +127,16 @@ pub fn chain(
     chain_in(&rows.words, n, x.set, position as usize, out)
 }
 
-// Those of the first `n` positions whose dependencies are all among them: `n` rounds, each of at most sixteen slots.
-fn bounded_part(slots: &[u16; SLOTS], counts: &[u8; MOST_FEATURES], n: usize) -> Bounded
-    requires { n ≤ most_features }
-    ensures { BoundedPart slots.now counts.now n result }
+// Those of the positions of a graph whose dependencies are all among them: a round for each, of at most sixteen slots.
+fn bounded_part(g: Graph) -> Bounded
+    ensures { BoundedPart g.entry.slots.now g.entry.counts.now g.entry.n result }
 {
     let mut set = positions::empty();
     let mut used: [u8; MOST_FEATURES] = [0; MOST_FEATURES];
-    for i in 0..n {
-        if form::slots_fit(slots, n as u32, i, tables::used(counts, i)) {
+    for i in 0..g.n {
+        if form::slots_fit(g.slots, g.n as u32, i, tables::used(g.counts, i)) {
             set = positions::insert(set, i);
-            used[i] = counts[i];
+            used[i] = g.counts[i];
         }
     }
     Bounded { set, counts: used }
@@ -158,8 +157,8 @@ pub fn chain_by_slots(
     ensures out_after { out.new
         ≡ after_chain_by_slots slots.now counts.now n p.words i out.old }
 {
-    let m = n.min(MOST_FEATURES);
-    let x = bounded_part(slots, counts, m);
-    let rows = tables::dependency_rows(slots, &x.counts, m);
-    chain_in(&rows.words, m, sets::intersection(p, x.set), i, out)
+    let g = Graph::new(slots, counts, n);
+    let x = bounded_part(g);
+    let rows = tables::dependency_rows(slots, &x.counts, g.n);
+    chain_in(&rows.words, g.n, sets::intersection(p, x.set), i, out)
 }
