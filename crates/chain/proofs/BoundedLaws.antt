@@ -37,9 +37,9 @@ pub record BoundedTo (slots counts : List ℕ) (n i : ℕ) (set used : List ℕ)
   pub rest : (j : ℕ) → i ≤ j → get_or used j 0 ≡ 0
 
 -- the part is that of equal slots and counts
-pub bounded-same : {a b c d : List ℕ} {n : ℕ} {r : Bounded} → a ≡ b → c ≡ d → BoundedPart a c n r → BoundedPart b d n r
-bounded-same {a} {b} {c} {d} {n} {r} e q w =
-    subst (λ (x : List ℕ). BoundedPart x d n r) e (subst (λ (x : List ℕ). BoundedPart a x n r) q w)
+pub bounded-same : {a b c d : List ℕ} {m n : ℕ} {r : Bounded} → a ≡ b → c ≡ d → m ≡ n → BoundedPart a c m r → BoundedPart b d n r
+bounded-same {a} {b} {c} {d} {m} {n} {r} e q z w =
+    subst (λ (x : List ℕ). BoundedPart x d n r) e (subst (λ (x : List ℕ). BoundedPart a x n r) q (subst (λ (k : ℕ). BoundedPart a c k r) z w))
 
 module _ (slots counts : List ℕ) (n : ℕ) where
   abbrev bounded : ℕ → Bool

@@ -30,6 +30,25 @@ impl Default for Rows {
     }
 }
 
+// The rows of the first `n` positions, in the words of a table.
+#[derive(Clone, Copy)]
+pub struct Table<'a> {
+    pub words: &'a [u64; TABLE_WORDS],
+    pub n: usize,
+    ghost few: { n ≤ most_features },
+}
+
+impl<'a> Table<'a> {
+    // The rows of the first `n` positions, of at most 64.
+    pub fn new(words: &'a [u64; TABLE_WORDS], n: usize) -> Table<'a>
+        ensures words { result.words.now ≡ words.now }
+        ensures n { result.n ≡ min n most_features }
+    {
+        let rows = n.min(MOST_FEATURES);
+        Table { words, n: rows }
+    }
+}
+
 // The set in a row of a table, empty from row 64 on: its words are copied.
 pub fn row(table: &[u64; TABLE_WORDS], i: usize) -> Set
     ensures { result.words ≡ row_or_none table.now i }
