@@ -34,7 +34,7 @@ struct Bounded {
 fn layer(table: Table, s: Set) -> Set
     ensures { result.words ≡ swept table.entry.words.now table.entry.n s.words }
 {
-    sets::intersection(s, tables::inside_rows(table.words, table.n, s))
+    sets::intersection(s, table.inside(s))
 }
 
 // The layers of a set that hold position `i`; a refusal where the position is enabled, so that every layer does. At most a round a row: each

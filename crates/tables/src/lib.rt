@@ -47,6 +47,17 @@ impl<'a> Table<'a> {
         let rows = n.min(MOST_FEATURES);
         Table { words, n: rows }
     }
+
+    // Those of the positions whose rows hold only members of `p`: a round a row, each a read and a test a word.
+    pub fn inside(self, p: Set) -> Set
+        ensures { result.words ≡ rows_inside self.entry.words.now self.entry.n p.words }
+    {
+        let mut s = positions::empty();
+        for i in 0..self.n {
+            s = added(s, row(self.words, i), p, i);
+        }
+        s
+    }
 }
 
 // The set in a row of a table, empty from row 64 on: its words are copied.
@@ -151,10 +162,5 @@ fn added(s: Set, x: Set, p: Set, i: usize) -> Set
 pub fn inside_rows(table: &[u64; TABLE_WORDS], n: usize, p: Set) -> Set
     ensures { result.words ≡ rows_inside table.now (min n most_features) p.words }
 {
-    let m = n.min(MOST_FEATURES);
-    let mut s = positions::empty();
-    for i in 0..m {
-        s = added(s, row(table, i), p, i);
-    }
-    s
+    Table::new(table, n).inside(p)
 }
