@@ -42,6 +42,7 @@ fn joined(x: Set, y: Set, k: usize) -> Set
 }
 
 // Each of the first `n` rows that has `k` takes in row `k`: `n` rounds, each of a read, a step and a write for each word of a row.
+// No `Table`: its rows are only read, and these change.
 fn join(table: &mut [u64; TABLE_WORDS], n: usize, k: usize)
     requires { (n ≤ most_features) × (k < n) }
     ensures { Joins n k table.old table.new }

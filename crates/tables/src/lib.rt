@@ -113,7 +113,7 @@ impl<'a> Graph<'a> {
         Graph { slots, counts, n }
     }
 
-    // The slots that a position uses; none past the last of 64.
+    // The slots that a position uses; none past the last of 64, for which the part begins at the end of all.
     pub fn dependencies(self, i: usize) -> &'a [u16]
         ensures { result.now ≡ own_slots self.entry.slots.now self.entry.counts.now i }
     {
