@@ -1,6 +1,6 @@
 -- The positions whose dependencies are all among the first n, and their counts, as they are gathered. Assumes nothing.
 use Prim.Native.Nat.{ℕ, ◌+◌, ◌≤◌, ◌<◌}
-use mathlib.Core.Path.{◌≡◌, sym, ap, ◌∙◌}
+use mathlib.Core.Path.{◌≡◌, sym, ap, subst, ◌∙◌}
 use mathlib.Core.Bool.{Bool, true, false, cond}
 use mathlib.Core.List.{List}
 use native.Mathlib.Omega.{arith}
@@ -16,6 +16,8 @@ use Rattle.tables.specs.Slots.{slot_number, used_slots}
 use Rattle.form.specs.WellFormed.{slot_below, slots_fit}
 use Rattle.form.specs.Slots.{slots_fit_at}
 use Rattle.closure.specs.Slots.{slots_below}
+use Rattle.chain.specs.declared.Bounded.{Bounded}
+use Rattle.chain.specs.Parts.{BoundedPart}
 
 -- what the test of a position's slots, as many as it uses, answers
 pub slots-fit-is : (slots counts : List ℕ) (n i : ℕ) {m : ℕ} {b : Bool} → i < most_features → m ≡ used_slots counts i → b ≡ slots_fit_at slots n i m
@@ -33,6 +35,11 @@ pub record BoundedTo (slots counts : List ℕ) (n i : ℕ) (set used : List ℕ)
   pub members : set ≡ collect set_words i (slots_below slots counts n)
   pub counted : (j : ℕ) → j < i → get_or used j 0 ≡ cond (slots_below slots counts n j) (get_or counts j 0) 0
   pub rest : (j : ℕ) → i ≤ j → get_or used j 0 ≡ 0
+
+-- the part is that of equal slots and counts
+pub bounded-same : {a b c d : List ℕ} {m n : ℕ} {r : Bounded} → a ≡ b → c ≡ d → m ≡ n → BoundedPart a c m r → BoundedPart b d n r
+bounded-same {a} {b} {c} {d} {m} {n} {r} e q z w =
+    subst (λ (x : List ℕ). BoundedPart x d n r) e (subst (λ (x : List ℕ). BoundedPart a x n r) q (subst (λ (k : ℕ). BoundedPart a c k r) z w))
 
 module _ (slots counts : List ℕ) (n : ℕ) where
   abbrev bounded : ℕ → Bool

@@ -58,8 +58,8 @@ module _ (slots counts : List ℕ) (asked : ℕ) {n : ℕ} (most : n ≡ min ask
         ∙ ap (λ (m : ℕ). some m (λ (j : ℕ). eqb (slot_of slots i j) t)) (left-number i h);
   }
 
-  pub slots-shown : (n ≤ most_features) × ShowsSome n table
-  slots-shown = (few, record { num = number_within slots counts n; dep = slot_of slots; shows = shows })
+  pub slots-shown : ShowsSome n table
+  slots-shown = record { num = number_within slots counts n; dep = slot_of slots; shows = shows }
 
   -- the set handed in, without the positions whose dependencies are not among the n
   module _ (p : List ℕ) {both : List ℕ} (meet : both ≡ common p x.set.words) (i : ℕ) where

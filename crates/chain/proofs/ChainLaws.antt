@@ -1,10 +1,9 @@
 -- How the call for a chain ends: by the refusal of the record or the level, or by the graph of the record. Assumes nothing.
 use Rattle.std.specs.Prelude.{Result}
 use Rattle.refusal.specs.declared.Refusal.{Refusal}
-use Prim.Native.Nat.{ℕ, ◌≤◌, min}
+use Prim.Native.Nat.{ℕ, min}
 use mathlib.Core.Path.{◌≡◌, sym, ap, ◌∙◌}
 use mathlib.Core.List.{List}
-use native.Mathlib.Omega.{arith}
 use lib.ListN.{length}
 use Rattle.refusal.specs.Refusal.{Outcome, refuse}
 use Rattle.refusal.specs.Checks.{fault_of}
@@ -47,8 +46,8 @@ module _ (r : Record) (level : ℕ) (g : Grants) {o : Outcome Seen} (e : o ≡ e
       shows : Shows (dependencies_in r) (dependency_in r) n (row_at table)
       shows = rw (rows, all) (shows-table r (form-seen r level g e none) (counts-seen r level g e none))
 
-      pub graph-shown : (n ≤ most_features) × ShowsSome n table
-      graph-shown = (omega arith, record { num = dependencies_in r; dep = dependency_in r; shows = shows })
+      pub graph-shown : ShowsSome n table
+      graph-shown = record { num = dependencies_in r; dep = dependency_in r; shows = shows }
 
       module _ {i : ℕ} {old new : List ℕ} {t : Result ℕ Refusal} (tells : Tells table n o.value.set i old new t) where
         told : Tells table n (permitted_set r level g) i old new t

@@ -1,5 +1,5 @@
 -- Laws of layers: what one sweep leaves; where one takes nothing out, no later one does. Assumes nothing.
-use Prim.Native.Nat.{ℕ, ◌≤◌, ◌<◌, min}
+use Prim.Native.Nat.{ℕ, ◌≤◌, ◌<◌}
 use mathlib.Core.Path.{◌≡◌, refl, sym, ap, ap₂, ◌∙◌}
 use mathlib.Core.Bool.{Bool, true, false, ◌&&◌}
 use mathlib.Core.List.{List}
@@ -20,13 +20,12 @@ unfolding swept
 has-swept table s n i h = has-collect set_words n (is_left table s) h i
 
 -- they are the members whose rows are inside the set
-pub layer-is : (table s : List ℕ) (n : ℕ) {rows t : List ℕ} → n ≤ most_features → rows ≡ rows_inside table (min n most_features) s
+pub layer-is : (table s : List ℕ) (n : ℕ) {rows t : List ℕ} → n ≤ most_features → rows ≡ rows_inside table n s
     → t ≡ common s rows → t ≡ swept table n s
 unfolding swept is_left rows_inside common is_subset
 layer-is table s n h e q =
-    let all : min n most_features ≡ n = omega arith in
     let inside : ℕ → Bool = λ i. is_subset (row_at table i) s in
-    q ∙ ap (common s) (e ∙ ap (λ (m : ℕ). rows_inside table m s) all)
+    q ∙ ap (common s) e
     ∙ collect-is (common s (rows_inside table n s)) n (is_left table s) (set-of-words (λ i. has s i && has (rows_inside table n s) i))
     (omega arith) (λ i l.
     common-member s (rows_inside table n s) i l

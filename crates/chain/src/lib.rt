@@ -13,7 +13,7 @@ use permitted::Grants;
 use positions::Set;
 use record::{MOST_FEATURES, Record, SLOTS};
 use refusal::Refusal;
-use tables::TABLE_WORDS;
+use tables::{Graph, TABLE_WORDS, Table};
 
 // What sweeps leave of the permitted set, the set itself first: the first `held` of these layers hold a position, and the next does not.
 #[derive(Clone, Copy)]
@@ -29,28 +29,27 @@ struct Bounded {
     counts: [u8; MOST_FEATURES],
 }
 
-// One sweep: the members of a set among the first `n` positions whose rows are inside it. `n` rounds: each reads a row and compares it,
-// two steps a word.
-fn layer(table: &[u64; TABLE_WORDS], n: usize, s: Set) -> Set
-    requires { n ≤ most_features }
-    ensures { result.words ≡ swept table.now n s.words }
+// One sweep: the members of a set among the positions of a table whose rows are inside it. A round a row: each reads it and compares it, two
+// steps a word.
+fn layer(table: Table, s: Set) -> Set
+    ensures { result.words ≡ swept table.entry.words.now table.entry.n s.words }
 {
-    sets::intersection(s, tables::inside_rows(table, n, s))
+    sets::intersection(s, table.inside(s))
 }
 
-// The layers of a set that hold position `i`; a refusal where the position is enabled, so that every layer does. At most `n` rounds: each
+// The layers of a set that hold position `i`; a refusal where the position is enabled, so that every layer does. At most a round a row: each
 // is one sweep, and compares two sets, a step a word.
-fn fall(table: &[u64; TABLE_WORDS], n: usize, p: Set, i: usize) -> Result<Layers, Refusal>
-    requires { (n ≤ most_features) × (i < n) }
-    ensures { Falls table.now n p.words i result }
+fn fall(table: Table, p: Set, i: usize) -> Result<Layers, Refusal>
+    requires { i < table.n }
+    ensures { Falls table.entry.words.now table.entry.n p.words i result }
 {
     let mut sets = [positions::empty(); MOST_FEATURES];
     let mut s = p;
-    for k in 0..n {
+    for k in 0..table.n {
         if !positions::member(s, i) {
             return Ok(Layers { held: k, sets });
         }
-        let t = layer(table, n, s);
+        let t = layer(table, s);
         if sets::subset(s, t) {
             return Err(Refusal::FeatureEnabled);
         }
@@ -60,7 +59,10 @@ fn fall(table: &[u64; TABLE_WORDS], n: usize, p: Set, i: usize) -> Result<Layers
     if positions::member(s, i) {
         return Err(Refusal::FeatureEnabled);
     }
-    Ok(Layers { held: n, sets })
+    Ok(Layers {
+        held: table.n,
+        sets,
+    })
 }
 
 // The way from position `i` down the layers that hold it, into the front of a lent buffer: the lowest dependency outside the last of them,
@@ -85,26 +87,21 @@ fn write_chain(table: &[u64; TABLE_WORDS], l: Layers, i: usize, out: &mut [u8])
     out[l.held] = at as u8;
 }
 
-// The chain from position `i` of the graph that a table shows, where the members of a set are permitted: at most `n` sweeps of `n` rows.
-fn chain_in(
-    table: &[u64; TABLE_WORDS],
-    n: usize,
-    p: Set,
-    i: usize,
-    out: &mut [u8],
-) -> Result<u32, Refusal>
-    requires { (n ≤ most_features) × ShowsSome n table.now }
-    ensures { Tells table.now n p.words i out.old out.new result }
+// The chain from position `i` of the graph that a table shows, where the members of a set are permitted: at most a sweep a row, each of all
+// rows.
+fn chain_in(table: Table, p: Set, i: usize, out: &mut [u8]) -> Result<u32, Refusal>
+    requires { ShowsSome table.n table.words.now }
+    ensures { Tells table.entry.words.now table.entry.n p.words i out.old out.new result }
 {
-    if n <= i {
+    if table.n <= i {
         return Err(Refusal::Position);
     }
-    let layers = fall(table, n, p, i)?;
+    let layers = fall(table, p, i)?;
     let length = layers.held + 1;
     if out.len() < length {
         return Err(Refusal::BufferLength);
     }
-    write_chain(table, layers, i, out);
+    write_chain(table.words, layers, i, out);
     Ok(length as u32)
 }
 
@@ -120,24 +117,23 @@ pub fn chain(
     ensures result_value { chain_outcome result ≡ chain_of r level g position (length out.old) }
     ensures out_after { out.new ≡ after_chain r level g position out.old }
 {
-    let n = (r.count as usize).min(MOST_FEATURES);
+    let n = r.count as usize;
     let slots = r.slots;
     let x = permitted::examine(r, level, g)?;
     let rows = tables::dependency_rows(&slots, &x.counts, n);
-    chain_in(&rows.words, n, x.set, position as usize, out)
+    chain_in(Table::new(&rows.words, n), x.set, position as usize, out)
 }
 
-// Those of the first `n` positions whose dependencies are all among them: `n` rounds, each of at most sixteen slots.
-fn bounded_part(slots: &[u16; SLOTS], counts: &[u8; MOST_FEATURES], n: usize) -> Bounded
-    requires { n ≤ most_features }
-    ensures { BoundedPart slots.now counts.now n result }
+// Those of the positions of a graph whose dependencies are all among them: a round for each, of at most sixteen slots.
+fn bounded_part(g: Graph) -> Bounded
+    ensures { BoundedPart g.entry.slots.now g.entry.counts.now g.entry.n result }
 {
     let mut set = positions::empty();
     let mut used: [u8; MOST_FEATURES] = [0; MOST_FEATURES];
-    for i in 0..n {
-        if form::slots_fit(slots, n as u32, i, tables::used(counts, i)) {
+    for i in 0..g.n {
+        if form::slots_fit(g.slots, g.n as u32, i, tables::used(g.counts, i)) {
             set = positions::insert(set, i);
-            used[i] = counts[i];
+            used[i] = g.counts[i];
         }
     }
     Bounded { set, counts: used }
@@ -158,8 +154,9 @@ pub fn chain_by_slots(
     ensures out_after { out.new
         ≡ after_chain_by_slots slots.now counts.now n p.words i out.old }
 {
-    let m = n.min(MOST_FEATURES);
-    let x = bounded_part(slots, counts, m);
-    let rows = tables::dependency_rows(slots, &x.counts, m);
-    chain_in(&rows.words, m, sets::intersection(p, x.set), i, out)
+    let g = Graph::new(slots, counts, n);
+    let x = bounded_part(g);
+    let rows = tables::dependency_rows(slots, &x.counts, n);
+    let table = Table::new(&rows.words, n);
+    chain_in(table, sets::intersection(p, x.set), i, out)
 }

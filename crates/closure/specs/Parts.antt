@@ -1,5 +1,5 @@
 -- What the functions behind the public ones promise.
-use Rattle.std.specs.Prelude.{ℕ, ◌<◌, ◌≡◌, Bool, true, false, ◌&&◌, ◌⊎◌, List, ltb, Option, None, Some}
+use Rattle.std.specs.Prelude.{ℕ, ◌<◌, ◌≡◌, Bool, true, false, ◌&&◌, ◌⊎◌, List, ltb, length, get_or, Option, None, Some}
 use Rattle.positions.specs.Below.{every}
 use Rattle.positions.specs.Sets.{room, has, with_member, without_member, is_subset}
 use Rattle.tables.specs.Slots.{slot_number, slot_of}
@@ -8,6 +8,10 @@ use Rattle.closure.specs.declared.Left.{Left}
 -- a position is a member of a set; none past its last word is
 unfoldable pub is_member : List ℕ → ℕ → Bool
 is_member s i = ltb i room && has s i
+
+-- the positions of a list are all members of a set
+unfoldable pub all_members : List ℕ → List ℕ → Bool
+all_members xs s = every (length xs) (λ (j : ℕ). is_member s (get_or xs j 0))
 
 -- the first m slots of position i are all members of a set
 unfoldable pub slots_held : List ℕ → ℕ → ℕ → List ℕ → Bool

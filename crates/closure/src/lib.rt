@@ -1,11 +1,10 @@
 // The largest closed part of a set of positions: passes over the slots until none takes a position out.
 #![tactic(auto)]
 
-ghost use Rattle.std.specs.Prelude.{◌≡◌, ◌≤◌, ◌<◌};
-ghost use Rattle.record.specs.Record.{most_features, most_dependencies};
+ghost use Rattle.std.specs.Prelude.{◌≡◌, length};
 ghost use Rattle.closure.specs.Slots.{closed_part};
 ghost use Rattle.closure.specs.Parts.{
-  slots_held,
+  all_members,
   slots_in,
   Tested,
   TestedMember,
@@ -15,7 +14,8 @@ ghost use Rattle.closure.specs.Parts.{
 };
 
 use positions::{Set, WORDS};
-use record::{MOST_DEPENDENCIES, MOST_FEATURES, SLOTS};
+use record::{MOST_FEATURES, SLOTS};
+use tables::Graph;
 
 // What is left of a set, and those of it that have dependencies, which were members when they were last tested.
 #[derive(Clone, Copy)]
@@ -24,14 +24,12 @@ struct Left {
     needy: Set,
 }
 
-// What is left once position `i` is tested, whose dependencies are its first `m` slots: it is taken out where one of these is no member. A
-// round for each slot, up to the first that is none.
-fn tested(slots: &[u16; SLOTS], i: usize, m: usize, x: Left) -> Left
-    requires { (i < most_features) × (m ≤ most_dependencies) }
-    ensures { Tested (slots_held slots.now i m x.members.words) i x result }
+// What is left once position `i` is tested, whose dependencies are handed in: it is taken out where one of these is no member. A round for
+// each slot, up to the first that is none.
+fn tested(slots: &[u16], i: usize, x: Left) -> Left
+    ensures { Tested (all_members slots.now x.members.words) i x result }
 {
-    let first = MOST_DEPENDENCIES * i;
-    if slots[first..first + m]
+    if slots
         .iter()
         .all(|slot| positions::member(x.members, usize::from(*slot)))
     {
@@ -48,27 +46,25 @@ fn tested(slots: &[u16; SLOTS], i: usize, m: usize, x: Left) -> Left
 }
 
 // The same, where only a member that has dependencies is tested.
-fn tested_member(slots: &[u16; SLOTS], i: usize, m: usize, x: Left) -> Left
-    requires { (i < most_features) × (m ≤ most_dependencies) }
-    ensures { TestedMember (slots_held slots.now i m x.members.words) i m x result }
+fn tested_member(slots: &[u16], i: usize, x: Left) -> Left
+    ensures { TestedMember (all_members slots.now x.members.words) i (length slots.now) x result }
 {
-    if m == 0 || !positions::member(x.members, i) {
+    if slots.is_empty() || !positions::member(x.members, i) {
         return x;
     }
-    tested(slots, i, m, x)
+    tested(slots, i, x)
 }
 
-// The first pass, over the first `n` positions from the first to the last: `n` rounds, each of at most sixteen slots.
-fn first_pass(slots: &[u16; SLOTS], counts: &[u8; MOST_FEATURES], n: usize, s: Set) -> Left
-    requires { n ≤ most_features }
-    ensures { Passes (slots_in slots.now counts.now) n s.words result }
+// The first pass, over the positions from the first to the last: a round for each, of at most sixteen slots.
+fn first_pass(g: Graph, s: Set) -> Left
+    ensures { Passes (slots_in g.entry.slots.now g.entry.counts.now) g.entry.n s.words result }
 {
     let mut x = Left {
         members: s,
         needy: positions::empty(),
     };
-    for i in 0..n {
-        x = tested_member(slots, i, tables::used(counts, i), x);
+    for i in 0..g.n {
+        x = tested_member(g.dependencies(i), i, x);
     }
     x
 }
@@ -99,15 +95,9 @@ fn outermost(s: Set, lowest: bool) -> Option<usize>
 }
 
 // A later pass, over what has dependencies, from the lowest or from the highest on: a round for each, of at most sixteen slots.
-fn next_pass(
-    slots: &[u16; SLOTS],
-    counts: &[u8; MOST_FEATURES],
-    n: usize,
-    x: Left,
-    upward: bool,
-) -> Left
-    requires { (n ≤ most_features) × Needy (slots_in slots.now counts.now) n x.members.words x.needy.words }
-    ensures { Passes (slots_in slots.now counts.now) n x.members.words result }
+fn next_pass(g: Graph, x: Left, upward: bool) -> Left
+    requires { Needy (slots_in g.slots.now g.counts.now) g.n x.members.words x.needy.words }
+    ensures { Passes (slots_in g.entry.slots.now g.entry.counts.now) g.entry.n x.members.words result }
 {
     let mut todo = x.needy;
     let mut y = Left {
@@ -116,7 +106,7 @@ fn next_pass(
     };
     while let Some(i) = outermost(todo, upward) {
         todo = positions::remove(todo, i);
-        y = tested(slots, i, tables::used(counts, i), y);
+        y = tested(g.dependencies(i), i, y);
     }
     y
 }
@@ -128,13 +118,13 @@ fn next_pass(
 pub fn closed_part(slots: &[u16; SLOTS], counts: &[u8; MOST_FEATURES], n: usize, p: Set) -> Set
     ensures { result.words ≡ closed_part slots.now counts.now n p.words }
 {
-    let m = n.min(MOST_FEATURES);
-    let mut old = sets::intersection(p, positions::below(m));
-    let mut x = first_pass(slots, counts, m, old);
+    let g = Graph::new(slots, counts, n);
+    let mut old = sets::intersection(p, positions::below(g.n));
+    let mut x = first_pass(g, old);
     let mut upward = false;
     while !sets::subset(old, x.members) {
         old = x.members;
-        x = next_pass(slots, counts, m, x, upward);
+        x = next_pass(g, x, upward);
         upward = !upward;
     }
     x.members

@@ -11,18 +11,21 @@ ghost use Rattle.reach.specs.Parts.{with_self, joined as joined_of, Joins, Reach
 use enabled::Enabled;
 use permitted::{Grants, USER};
 use positions::Set;
-use record::{MOST_FEATURES, Record};
+use record::Record;
 use refusal::Refusal;
-use tables::{Rows, TABLE_WORDS};
+use tables::{Rows, TABLE_WORDS, Table};
 
-// The first `n` rows, each with its own position put in: `n` rounds, each of one row read and one written.
-fn with_selves(table: &[u64; TABLE_WORDS], n: usize) -> Rows
-    requires { n ≤ most_features }
-    ensures { result.words ≡ table_of n (with_self table.now) }
+// The rows of a table, each with its own position put in: a round a row, each of one row read and one written.
+fn with_selves(table: Table) -> Rows
+    ensures { result.words ≡ table_of table.entry.n (with_self table.entry.words.now) }
 {
     let mut words: [u64; TABLE_WORDS] = [0; TABLE_WORDS];
-    for i in 0..n {
-        tables::put_row(&mut words, i, positions::insert(tables::row(table, i), i));
+    for i in 0..table.n {
+        tables::put_row(
+            &mut words,
+            i,
+            positions::insert(tables::row(table.words, i), i),
+        );
     }
     Rows { words }
 }
@@ -39,6 +42,7 @@ fn joined(x: Set, y: Set, k: usize) -> Set
 }
 
 // Each of the first `n` rows that has `k` takes in row `k`: `n` rounds, each of a read, a step and a write for each word of a row.
+// No `Table`: its rows are only read, and these change.
 fn join(table: &mut [u64; TABLE_WORDS], n: usize, k: usize)
     requires { (n ≤ most_features) × (k < n) }
     ensures { Joins n k table.old table.new }
@@ -50,14 +54,13 @@ fn join(table: &mut [u64; TABLE_WORDS], n: usize, k: usize)
     }
 }
 
-// The reach table of the first `n` positions: each position is let through in turn, `n` rounds of `n` rows.
-fn reach_rows(table: &[u64; TABLE_WORDS], n: usize) -> Rows
-    requires { n ≤ most_features }
-    ensures { Reaches table.now n result.words }
+// The reach table of the rows of a table: each position is let through in turn, a round a row, each of all rows.
+fn reach_rows(table: Table) -> Rows
+    ensures { Reaches table.entry.words.now table.entry.n result.words }
 {
-    let mut rows = with_selves(table, n);
-    for k in 0..n {
-        join(&mut rows.words, n, k);
+    let mut rows = with_selves(table);
+    for k in 0..table.n {
+        join(&mut rows.words, table.n, k);
     }
     rows
 }
@@ -72,11 +75,11 @@ pub fn reach_table(r: Record) -> Result<Rows, Refusal>
         hfscr: 0,
         fscr: 0,
     };
-    let n = (r.count as usize).min(MOST_FEATURES);
+    let n = r.count as usize;
     let slots = r.slots;
     let x = permitted::examine(r, USER, none)?;
-    let table = tables::dependency_rows(&slots, &x.counts, n);
-    Ok(reach_rows(&table.words, n))
+    let rows = tables::dependency_rows(&slots, &x.counts, n);
+    Ok(reach_rows(Table::new(&rows.words, n)))
 }
 
 // The enabled set by the rows of a table that is handed in.

@@ -1,8 +1,9 @@
 -- Laws of the table of dependencies as the code builds it. Assumes nothing.
 use Prim.Native.Nat.{ℕ, ◌+◌, ◌*◌, min}
-use mathlib.Core.Path.{◌≡◌, ap, ◌∙◌}
+use mathlib.Core.Path.{◌≡◌, refl, ap, ◌∙◌}
 use mathlib.Core.Bool.{Bool}
 use mathlib.Core.List.{List}
+use native.Mathlib.Omega.{arith}
 use lib.Dec.{eqb}
 use lib.ListN.{get_or}
 use Rattle.positions.specs.Below.{some}
@@ -23,3 +24,8 @@ module _ (slots counts : List ℕ) where
   pub rows_all : (i n : ℕ) (table : List ℕ) → table ≡ table_of i in_slots → i ≡ min n most_features → table ≡ dependency_table slots counts n
   unfolding dependency_table in_slots
   rows_all i n table e q = e ∙ ap (λ (m : ℕ). table_of m in_slots) q
+
+-- there are at most 64 rows
+pub table-most : (slots counts : List ℕ) (m n : ℕ) → m ≡ min n most_features → dependency_table slots counts n ≡ dependency_table slots counts m
+unfolding dependency_table
+table-most slots counts m n e = let same : min n most_features ≡ min m most_features = omega arith in rw same refl

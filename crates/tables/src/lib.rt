@@ -1,10 +1,10 @@
 // Tables of sets of positions: a row for each position, the rows of dependencies, and the positions whose rows are inside a set.
 #![tactic(auto)]
 
-ghost use Rattle.std.specs.Prelude.{◌≡◌, ◌≤◌, ◌<◌, min, replicate};
-ghost use Rattle.record.specs.Record.{most_features, most_dependencies};
+ghost use Rattle.std.specs.Prelude.{◌≡◌, ◌≤◌, min, replicate};
+ghost use Rattle.record.specs.Record.{most_features};
 ghost use Rattle.tables.specs.Tables.{table_words, row_or_none, dependency_table, rows_inside};
-ghost use Rattle.tables.specs.Slots.{used_slots};
+ghost use Rattle.tables.specs.Slots.{used_slots, own_slots};
 ghost use Rattle.tables.specs.Parts.{row_put, slot_set, added_in};
 
 use positions::{Set, WORDS};
@@ -27,6 +27,36 @@ impl Default for Rows {
         Rows {
             words: [0; TABLE_WORDS],
         }
+    }
+}
+
+// The rows of the first `n` positions, in the words of a table.
+#[derive(Clone, Copy)]
+pub struct Table<'a> {
+    pub words: &'a [u64; TABLE_WORDS],
+    pub n: usize,
+    ghost few: { n ≤ most_features },
+}
+
+impl<'a> Table<'a> {
+    // The rows of the first `n` positions, of at most 64.
+    pub fn new(words: &'a [u64; TABLE_WORDS], n: usize) -> Table<'a>
+        ensures words { result.words.now ≡ words.now }
+        ensures n { result.n ≡ min n most_features }
+    {
+        let rows = n.min(MOST_FEATURES);
+        Table { words, n: rows }
+    }
+
+    // Those of the positions whose rows hold only members of `p`: a round a row, each a read and a test a word.
+    pub fn inside(self, p: Set) -> Set
+        ensures { result.words ≡ rows_inside self.entry.words.now self.entry.n p.words }
+    {
+        let mut s = positions::empty();
+        for i in 0..self.n {
+            s = added(s, row(self.words, i), p, i);
+        }
+        s
     }
 }
 
@@ -63,14 +93,42 @@ pub fn used(counts: &[u8; MOST_FEATURES], i: usize) -> usize
         .map_or(0, |n| usize::from(*n).min(MOST_DEPENDENCIES))
 }
 
-// The set of the first `n` slots of position `i`: a round for each slot, which changes one word.
-fn dependencies(slots: &[u16; SLOTS], i: usize, n: usize) -> Set
-    requires { (i < most_features) × (n ≤ most_dependencies) }
-    ensures { result.words ≡ slot_set slots.now i n }
+// The dependencies of the first `n` positions: the slots, sixteen to a position, and how many of its own each uses.
+#[derive(Clone, Copy)]
+pub struct Graph<'a> {
+    pub slots: &'a [u16; SLOTS],
+    pub counts: &'a [u8; MOST_FEATURES],
+    pub n: usize,
+    ghost few: { n ≤ most_features },
+}
+
+impl<'a> Graph<'a> {
+    // The graph of the first `n` positions, of at most 64.
+    pub fn new(slots: &'a [u16; SLOTS], counts: &'a [u8; MOST_FEATURES], n: usize) -> Graph<'a>
+        ensures slots { result.slots.now ≡ slots.now }
+        ensures counts { result.counts.now ≡ counts.now }
+        ensures n { result.n ≡ min n most_features }
+    {
+        let n = n.min(MOST_FEATURES);
+        Graph { slots, counts, n }
+    }
+
+    // The slots that a position uses; none past the last of 64, for which the part begins at the end of all.
+    pub fn dependencies(self, i: usize) -> &'a [u16]
+        ensures { result.now ≡ own_slots self.entry.slots.now self.entry.counts.now i }
+    {
+        let slots = self.slots;
+        let first = MOST_DEPENDENCIES * i.min(MOST_FEATURES);
+        &slots[first..first + used(self.counts, i)]
+    }
+}
+
+// The set of the slots that a position uses: a round for each slot, which changes one word.
+fn dependency_set(g: Graph, i: usize) -> Set
+    ensures { result.words ≡ slot_set g.entry.slots.now i (used_slots g.entry.counts.now i) }
 {
-    let first = MOST_DEPENDENCIES * i;
     let mut s = positions::empty();
-    for slot in &slots[first..first + n] {
+    for slot in g.dependencies(i) {
         s = positions::insert(s, usize::from(*slot));
     }
     s
@@ -80,10 +138,10 @@ fn dependencies(slots: &[u16; SLOTS], i: usize, n: usize) -> Set
 pub fn dependency_rows(slots: &[u16; SLOTS], counts: &[u8; MOST_FEATURES], n: usize) -> Rows
     ensures { result.words ≡ dependency_table slots.now counts.now n }
 {
-    let rows = n.min(MOST_FEATURES);
+    let g = Graph::new(slots, counts, n);
     let mut words = [0; TABLE_WORDS];
-    for i in 0..rows {
-        put_row(&mut words, i, dependencies(slots, i, used(counts, i)));
+    for i in 0..g.n {
+        put_row(&mut words, i, dependency_set(g, i));
     }
     Rows { words }
 }
@@ -104,10 +162,5 @@ fn added(s: Set, x: Set, p: Set, i: usize) -> Set
 pub fn inside_rows(table: &[u64; TABLE_WORDS], n: usize, p: Set) -> Set
     ensures { result.words ≡ rows_inside table.now (min n most_features) p.words }
 {
-    let m = n.min(MOST_FEATURES);
-    let mut s = positions::empty();
-    for i in 0..m {
-        s = added(s, row(table, i), p, i);
-    }
-    s
+    Table::new(table, n).inside(p)
 }

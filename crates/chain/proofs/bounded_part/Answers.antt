@@ -7,7 +7,7 @@ use Rattle.chain.proofs.bounded_part.Goals as goal
 use Rattle.chain.proofs.bounded_part.Goals.{then-slots_fit, else-slots_fit}
 
 pub loop-i-init : goal.loop-i-init
-loop-i-init c = bounded-none _ _ _ c.requires c.empty-set.ensures refl
+loop-i-init c = bounded-none _ _ _ c.args.g.few c.empty-set.ensures refl
 
 pub loop-i-preserved : goal.loop-i-preserved
 loop-i-preserved c =

@@ -3,4 +3,4 @@ use Rattle.chain.proofs.BoundedLaws.{BoundedTo}
 use Rattle.chain.proofs.bounded_part.Given as goal
 
 abbrev pub invariant-loop-i : goal.invariant-loop-i
-invariant-loop-i l = BoundedTo l.slots l.counts l.n l.i l.set.words l.used
+invariant-loop-i l = BoundedTo l.g.slots.now l.g.counts.now l.g.n l.i l.set.words l.used

@@ -1,7 +1,8 @@
 -- `chain::chain` meets its contract: the number that was found decides, or the graph of the record. Assumes nothing.
-use mathlib.Core.Path.{refl}
+use mathlib.Core.Path.{refl, ◌∙◌}
 use Rattle.std.proofs.lemmas.Result.{err_from_is_err_and}
 use Rattle.refusal.proofs.Numbers.{numbered}
+use Rattle.tables.proofs.DependencyLaws.{table-most}
 use Rattle.chain.proofs.ChainLaws.{asked-outcome, asked-bytes, graph-shown, chain-outcome, chain-bytes}
 use Rattle.chain.proofs.chain.Goals as goal
 
@@ -14,14 +15,16 @@ returns-in_err-x c =
     }
 
 pub chain_in-requires : goal.chain_in-requires
-chain_in-requires c = graph-shown _ _ _ c.in_ok-x.ensures refl c.min-n.ensures c.dependency_rows-rows.ensures
+chain_in-requires c =
+    let t = c.new.ensures in
+    graph-shown _ _ _ c.in_ok-x.ensures refl t.n (t.words ∙ c.dependency_rows-rows.ensures ∙ table-most _ _ _ _ t.n)
 
 pub returns : goal.returns
 returns c =
     let seen = c.in_ok-x.ensures in
-    let least = c.min-n.ensures in
-    let rows = c.dependency_rows-rows.ensures in
+    let t = c.new.ensures in
+    let rows = t.words ∙ c.dependency_rows-rows.ensures ∙ table-most _ _ _ _ t.n in
     let tells = c.chain_in.ensures in record {
-      result_value = chain-outcome _ _ _ seen refl least rows tells;
-      out_after = chain-bytes _ _ _ seen refl least rows tells;
+      result_value = chain-outcome _ _ _ seen refl t.n rows tells;
+      out_after = chain-bytes _ _ _ seen refl t.n rows tells;
     }

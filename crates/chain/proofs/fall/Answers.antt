@@ -5,7 +5,7 @@ use borrow.Author.Rules.{rules}
 use Rattle.chain.proofs.fall.Goals as goal
 
 pub loop-k-init : goal.loop-k-init
-loop-k-init c = fall_begins _ _ _ (search rules) c.requires.0 c.requires.1
+loop-k-init c = fall_begins _ _ _ (search rules) c.args.table.few c.requires
 
 pub returns-then-subset : goal.returns-then-subset
 returns-then-subset c =

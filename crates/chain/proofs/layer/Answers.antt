@@ -3,4 +3,4 @@ use Rattle.chain.proofs.LayerLaws.{layer-is}
 use Rattle.chain.proofs.layer.Goals as goal
 
 pub returns : goal.returns
-returns c = layer-is _ _ _ c.requires c.inside_rows.ensures c.intersection.ensures
+returns c = layer-is _ _ _ c.args.table.few c.inside.ensures c.intersection.ensures

@@ -6,4 +6,4 @@ use Rattle.closure.proofs.first_pass.Given as goal
 
 abbrev pub invariant-loop-i : goal.invariant-loop-i
 invariant-loop-i l =
-    Looked (slots_in l.slots l.counts) l.n l.initial.x.members.words (λ (j : ℕ). j < l.i) l.x.members.words l.x.needy.words
+    Looked (slots_in l.g.slots.now l.g.counts.now) l.g.n l.initial.x.members.words (λ (j : ℕ). j < l.i) l.x.members.words l.x.needy.words

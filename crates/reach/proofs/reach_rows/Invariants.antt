@@ -3,4 +3,4 @@ use Rattle.reach.proofs.JoinLaws.{Closes}
 use Rattle.reach.proofs.reach_rows.Given as goal
 
 abbrev pub invariant-loop-k : goal.invariant-loop-k
-invariant-loop-k l = Closes l.table l.n l.k l.rows.words
+invariant-loop-k l = Closes l.table.words.now l.table.n l.k l.rows.words

@@ -1,7 +1,8 @@
 -- `reach::reach_table` meets its contract. Assumes nothing.
-use mathlib.Core.Path.{refl}
+use mathlib.Core.Path.{refl, ◌∙◌}
 use Rattle.std.proofs.lemmas.Result.{err_from_is_err_and}
 use Rattle.refusal.proofs.Numbers.{numbered}
+use Rattle.tables.proofs.DependencyLaws.{table-most}
 use Rattle.reach.proofs.AnswerLaws.{reach-refused, reach-answered}
 use Rattle.reach.proofs.reach_table.Goals as goal
 
@@ -11,4 +12,6 @@ returns-in_err-x c =
     rw (p.1, p.2) (reach-refused _ _ c.in_err-x.ensures (numbered _))
 
 pub returns : goal.returns
-returns c = reach-answered _ _ c.in_ok-x.ensures refl c.min-n.ensures c.dependency_rows-table.ensures c.reach_rows.ensures
+returns c =
+    let t = c.new.ensures in
+    reach-answered _ _ c.in_ok-x.ensures refl t.n (t.words ∙ c.dependency_rows-rows.ensures ∙ table-most _ _ _ _ t.n) c.reach_rows.ensures

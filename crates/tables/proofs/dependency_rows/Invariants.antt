@@ -5,4 +5,4 @@ use Rattle.tables.proofs.DependencyLaws.{in_slots}
 use Rattle.tables.proofs.dependency_rows.Given as goal
 
 abbrev pub invariant-loop-i : goal.invariant-loop-i
-invariant-loop-i l = l.words ≡ table_of l.i (in_slots l.slots l.counts)
+invariant-loop-i l = l.words ≡ table_of l.i (in_slots l.g.slots.now l.g.counts.now)

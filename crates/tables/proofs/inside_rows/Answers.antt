@@ -1,16 +1,11 @@
 -- `tables::inside_rows` meets its contract. Assumes nothing.
-use mathlib.Core.Path.{◌∙◌}
-use native.Mathlib.Omega.{arith}
-use Rattle.tables.proofs.RowLaws.{row_low}
-use Rattle.tables.proofs.InsideLaws.{inside-none, inside-more, inside-all}
+use Prim.Native.Nat.{ℕ}
+use mathlib.Core.Path.{ap₂, ◌∙◌}
+use mathlib.Core.List.{List}
+use Rattle.tables.specs.Tables.{rows_inside}
 use Rattle.tables.proofs.inside_rows.Goals as goal
 
-pub loop-i-init : goal.loop-i-init
-loop-i-init c = c.empty-s.ensures ∙ inside-none _ _
-
-pub loop-i-preserved : goal.loop-i-preserved
-loop-i-preserved c =
-    c.added-s.ensures ∙ inside-more _ _ _ _ _ (omega arith) c.loop-i.invariant (c.row.ensures ∙ row_low _ _ (omega arith))
-
 pub returns : goal.returns
-returns c = inside-all _ _ _ _ _ c.loop-i.invariant (omega arith)
+returns c =
+    let t = c.new.ensures in
+    c.inside.ensures ∙ ap₂ (λ (table : List ℕ) (m : ℕ). rows_inside table m c.args.p.words) t.words t.n

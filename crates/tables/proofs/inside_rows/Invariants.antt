@@ -1,7 +1,0 @@
--- The invariant of `tables::inside_rows`: the positions passed are in the set where their rows are inside.
-use mathlib.Core.Path.{◌≡◌}
-use Rattle.tables.specs.Tables.{rows_inside}
-use Rattle.tables.proofs.inside_rows.Given as goal
-
-abbrev pub invariant-loop-i : goal.invariant-loop-i
-invariant-loop-i l = l.s.words ≡ rows_inside l.table l.i l.p.words
