@@ -61,101 +61,11 @@ struct NodeRead {
     found: Containers,
 }
 
-// The properties of a node whose contents begin at `from`: the place of the token behind them.
-fn properties_at(tree: &[u8], b: Blocks, from: usize) -> Result<usize, RefusedAt>
-    ensures { properties_outcome result ≡ read_properties b.end [] (tree_tokens tree.now b from) }
-{
-    let strings = StringsBlock {
-        from: b.strings,
-        limit: b.limit,
-    };
-    properties::read_properties(tree, b.end, from, tree, strings)
-}
-
-// A child node at `t`, whose name begins at `from`.
-fn child_item(tree: &[u8], b: Blocks, t: usize, from: usize) -> Result<Item, RefusedAt>
-    ensures { part_of result ≡ child_part tree.now b t from }
-{
-    let length = names::node_name(tree, from, b.end).ok_or(Refusal::Name.at(t))?;
-    Ok(Item::Child(ChildNode {
-        at: t,
-        name: from,
-        length,
-        next: Cursor {
-            at: from + (length + 1).next_multiple_of(4),
-        },
-    }))
-}
-
-// What stands at a place in a node, behind its properties.
-#[tactic(auto, using(crate::proofs::PartLaws::parts))]
-fn item_at(tree: &[u8], b: Blocks, at: usize) -> Result<Item, RefusedAt>
-    ensures { part_of result ≡ part_at tree.now b at }
-{
-    let cursor = Cursor { at };
-    match cursor.step(tree, b.end) {
-        Step::BeginNode { at, name } => child_item(tree, b, at, name.at),
-        Step::EndNode { next, .. } => Ok(Item::Close(next)),
-        Step::Nop { next, .. } => Ok(Item::Skip(next)),
-        Step::Property { at, .. } | Step::End { at } | Step::Fault { at } => {
-            Err(Refusal::Token.at(at))
-        }
-    }
-}
-
-// The containers, where a node of the name of `length` bytes from `from` on begins at `at`.
-fn noted(seen: Containers, tree: &[u8], at: usize, from: usize, length: usize) -> Containers
-    requires { from + length ≤ length-of tree.now }
-    ensures { result ≡ note seen at (take length (drop from tree.now)) }
-{
-    // `==` is no plainer here: `same_bytes` is it, promised in the words of `note`
-    if !strings::same_bytes(&tree[from..from + length], b"ibm,powerpc-cpu-features") {
-        return seen;
-    }
-    match seen.count {
-        0 => Containers {
-            count: 1,
-            first: at,
-            second: 0,
-        },
-        1 => Containers {
-            count: 2,
-            first: seen.first,
-            second: at,
-        },
-        _ => seen,
-    }
-}
-
-// Document 01: "nesting is followed to sixteen levels and no deeper". The contents of a node, to past its end token: its properties, and
-// then a call for each child, the levels left falling by one.
-fn contents(
-    tree: &[u8],
-    b: Blocks,
-    from: usize,
-    levels: usize,
-    seen: Containers,
-) -> Result<NodeRead, RefusedAt>
-    requires { levels < most_levels }
-    ensures { Reads tree.now b (in_properties (most_levels - levels) []) from seen (parent_of (most_levels - levels)) result }
-{
-    let mut at = properties_at(tree, b, from)?;
-    let mut found = seen;
-    loop {
-        match item_at(tree, b, at)? {
-            Item::Skip(next) => at = next.at,
-            Item::Child(child) => {
-                if levels == 0 {
-                    return Err(Refusal::TooMany.at(child.at));
-                }
-                let now = noted(found, tree, child.at, child.name, child.length);
-                let inner = contents(tree, b, child.next.at, levels - 1, now)?;
-                at = inner.next.at;
-                found = inner.found;
-            }
-            Item::Close(next) => return Ok(NodeRead { next, found }),
-        }
-    }
+// The bytes of a tree, and where its blocks lie in them.
+#[derive(Drop)]
+struct Tree<'a> {
+    bytes: &'a [u8],
+    blocks: Blocks,
 }
 
 const NO_CONTAINERS: Containers = Containers {
@@ -164,71 +74,177 @@ const NO_CONTAINERS: Containers = Containers {
     second: 0,
 };
 
-// The root's begin token, with its empty name; NOPs may stand before it.
-fn root_at(tree: &[u8], b: Blocks, start: usize) -> Result<NodeRead, RefusedAt>
-    ensures { Reads tree.now b before_root start none (in_properties 1 []) result }
-{
-    let mut cursor = Cursor { at: start };
-    loop {
-        match cursor.step(tree, b.end) {
-            Step::Nop { next, .. } => cursor = next,
-            Step::BeginNode { at, name } => {
-                if !names::root_name(tree, name.at, b.end) {
-                    return Err(Refusal::Name.at(at));
-                }
-                return Ok(NodeRead {
-                    next: Cursor { at: name.at + 4 },
-                    found: NO_CONTAINERS,
-                });
+impl Tree<'_> {
+    // The properties of a node whose contents begin at `from`: the place of the token behind them.
+    fn properties_at(&self, from: usize) -> Result<usize, RefusedAt>
+        ensures { properties_outcome result ≡ read_properties self.now.blocks.end [] (tree_tokens self.now.bytes.now self.now.blocks from) }
+    {
+        let strings = StringsBlock {
+            from: self.blocks.strings,
+            limit: self.blocks.limit,
+        };
+        properties::read_properties(self.bytes, self.blocks.end, from, self.bytes, strings)
+    }
+
+    // A child node at `t`, whose name begins at `from`.
+    fn child_item(&self, t: usize, from: usize) -> Result<Item, RefusedAt>
+        ensures { part_of result ≡ child_part self.now.bytes.now self.now.blocks t from }
+    {
+        let length = names::node_name(self.bytes, from, self.blocks.end).ok_or(Refusal::Name.at(t))?;
+        Ok(Item::Child(ChildNode {
+            at: t,
+            name: from,
+            length,
+            next: Cursor {
+                at: from + (length + 1).next_multiple_of(4),
+            },
+        }))
+    }
+
+    // What stands at a place in a node, behind its properties.
+    #[tactic(auto, using(crate::proofs::PartLaws::parts))]
+    fn item_at(&self, at: usize) -> Result<Item, RefusedAt>
+        ensures { part_of result ≡ part_at self.now.bytes.now self.now.blocks at }
+    {
+        let cursor = Cursor { at };
+        match cursor.step(self.bytes, self.blocks.end) {
+            Step::BeginNode { at, name } => self.child_item(at, name.at),
+            Step::EndNode { next, .. } => Ok(Item::Close(next)),
+            Step::Nop { next, .. } => Ok(Item::Skip(next)),
+            Step::Property { at, .. } | Step::End { at } | Step::Fault { at } => {
+                Err(Refusal::Token.at(at))
             }
-            Step::EndNode { at, .. }
-            | Step::Property { at, .. }
-            | Step::End { at }
-            | Step::Fault { at } => return Err(Refusal::Token.at(at)),
         }
     }
-}
 
-// After the root: the end token, in the last cell of the block; NOPs may stand before it.
-fn last_at(tree: &[u8], b: Blocks, from: usize) -> Result<(), RefusedAt>
-    ensures { Ends tree.now b from result }
-{
-    let mut cursor = Cursor { at: from };
-    loop {
-        match cursor.step(tree, b.end) {
-            Step::Nop { next, .. } => cursor = next,
-            Step::End { at } => {
-                if at + 4 == b.end {
-                    return Ok(());
-                }
-                return Err(Refusal::Token.at(at));
-            }
-            Step::BeginNode { at, .. }
-            | Step::EndNode { at, .. }
-            | Step::Property { at, .. }
-            | Step::Fault { at } => return Err(Refusal::Token.at(at)),
+    // The containers, where a node of the name of `length` bytes from `from` on begins at `at`.
+    fn noted(&self, seen: Containers, at: usize, from: usize, length: usize) -> Containers
+        requires { from + length ≤ length-of self.now.bytes.now }
+        ensures { result ≡ note seen at (take length (drop from self.now.bytes.now)) }
+    {
+        // `==` is no plainer here: `same_bytes` is it, promised in the words of `note`
+        if !strings::same_bytes(&self.bytes[from..from + length], b"ibm,powerpc-cpu-features") {
+            return seen;
+        }
+        match seen.count {
+            0 => Containers {
+                count: 1,
+                first: at,
+                second: 0,
+            },
+            1 => Containers {
+                count: 2,
+                first: seen.first,
+                second: at,
+            },
+            _ => seen,
         }
     }
-}
 
-// What follows the root's contents, which found these containers.
-fn closed_tree(tree: &[u8], b: Blocks, at: usize, found: Containers) -> Result<Layout, RefusedAt>
-    ensures { Closes tree.now b at found (checked_outcome result) }
-{
-    last_at(tree, b, at)?;
-    Ok(Layout {
-        blocks: b,
-        containers: found,
-    })
-}
+    // Document 01: "nesting is followed to sixteen levels and no deeper". The contents of a node, to past its end token: its properties,
+    // and then a call for each child, the levels left falling by one.
+    fn contents(&self, from: usize, levels: usize, seen: Containers) -> Result<NodeRead, RefusedAt>
+        requires { levels < most_levels }
+        ensures {
+          Reads
+            self.now.bytes.now
+            self.now.blocks
+            (in_properties (most_levels - levels) [])
+            from
+            seen
+            (parent_of (most_levels - levels))
+            result
+        }
+    {
+        let mut at = self.properties_at(from)?;
+        let mut found = seen;
+        loop {
+            match self.item_at(at)? {
+                Item::Skip(next) => at = next.at,
+                Item::Child(child) => {
+                    if levels == 0 {
+                        return Err(Refusal::TooMany.at(child.at));
+                    }
+                    let now = self.noted(found, child.at, child.name, child.length);
+                    let inner = self.contents(child.next.at, levels - 1, now)?;
+                    at = inner.next.at;
+                    found = inner.found;
+                }
+                Item::Close(next) => return Ok(NodeRead { next, found }),
+            }
+        }
+    }
 
-// The walk over a tree whose blocks lie in it.
-fn walk_tree(tree: &[u8], b: Blocks) -> Result<Layout, RefusedAt>
-    ensures { checked_outcome result ≡ judge tree.now b (walk b.end before_root (tree_tokens tree.now b b.start)) }
-{
-    let root = root_at(tree, b, b.start)?;
-    let inner = contents(tree, b, root.next.at, MOST_LEVELS - 1, root.found)?;
-    closed_tree(tree, b, inner.next.at, inner.found)
+    // The root's begin token, with its empty name; NOPs may stand before it.
+    fn root_at(&self, start: usize) -> Result<NodeRead, RefusedAt>
+        ensures { Reads self.now.bytes.now self.now.blocks before_root start none (in_properties 1 []) result }
+    {
+        let mut cursor = Cursor { at: start };
+        loop {
+            match cursor.step(self.bytes, self.blocks.end) {
+                Step::Nop { next, .. } => cursor = next,
+                Step::BeginNode { at, name } => {
+                    if !names::root_name(self.bytes, name.at, self.blocks.end) {
+                        return Err(Refusal::Name.at(at));
+                    }
+                    return Ok(NodeRead {
+                        next: Cursor { at: name.at + 4 },
+                        found: NO_CONTAINERS,
+                    });
+                }
+                Step::EndNode { at, .. }
+                | Step::Property { at, .. }
+                | Step::End { at }
+                | Step::Fault { at } => return Err(Refusal::Token.at(at)),
+            }
+        }
+    }
+
+    // After the root: the end token, in the last cell of the block; NOPs may stand before it.
+    fn last_at(&self, from: usize) -> Result<(), RefusedAt>
+        ensures { Ends self.now.bytes.now self.now.blocks from result }
+    {
+        let mut cursor = Cursor { at: from };
+        loop {
+            match cursor.step(self.bytes, self.blocks.end) {
+                Step::Nop { next, .. } => cursor = next,
+                Step::End { at } => {
+                    if at + 4 == self.blocks.end {
+                        return Ok(());
+                    }
+                    return Err(Refusal::Token.at(at));
+                }
+                Step::BeginNode { at, .. }
+                | Step::EndNode { at, .. }
+                | Step::Property { at, .. }
+                | Step::Fault { at } => return Err(Refusal::Token.at(at)),
+            }
+        }
+    }
+
+    // What follows the root's contents, which found these containers.
+    fn closed_tree(&self, at: usize, found: Containers) -> Result<Layout, RefusedAt>
+        ensures { Closes self.now.bytes.now self.now.blocks at found (checked_outcome result) }
+    {
+        self.last_at(at)?;
+        Ok(Layout {
+            blocks: self.blocks,
+            containers: found,
+        })
+    }
+
+    // The walk over a tree whose blocks lie in it.
+    fn walk_tree(&self) -> Result<Layout, RefusedAt>
+        ensures {
+          checked_outcome result
+            ≡ judge self.now.bytes.now self.now.blocks
+                (walk self.now.blocks.end before_root (tree_tokens self.now.bytes.now self.now.blocks self.now.blocks.start))
+        }
+    {
+        let root = self.root_at(self.blocks.start)?;
+        let inner = self.contents(root.next.at, MOST_LEVELS - 1, root.found)?;
+        self.closed_tree(inner.next.at, inner.found)
+    }
 }
 
 // A tree, checked whole. Refusals: those of the header, and then the first faulty token's, 6, 7, 8 or 9, at its place.
@@ -236,5 +252,9 @@ pub fn check_tree(tree: &[u8]) -> Result<Layout, RefusedAt>
     ensures { checked_outcome result ≡ check_tree tree.now }
 {
     let blocks = header::read_header(tree)?;
-    walk_tree(tree, blocks)
+    let tree = Tree {
+        bytes: tree,
+        blocks,
+    };
+    tree.walk_tree()
 }

@@ -1,10 +1,10 @@
--- `walk::root_at` meets its contract. The loop's invariant is `Outside`. Assumes nothing.
+-- `walk::Tree::root_at` meets its contract. The loop's invariant is `Outside`. Assumes nothing.
 use mathlib.Core.Path.{sym, ◌∙◌}
 use mathlib.Core.Logic.{inl, inr}
 use native.Mathlib.Omega.{arith}
 use Rattle.tokens.proofs.TokenList.{nop-moves}
 use Rattle.walk.proofs.Outside.{outside-begins, outside-nop, root-enters, root-room, root-stops, root-end-node, root-property, root-end, root-fault}
-use Rattle.walk.proofs.root_at.Goals as goal
+use Rattle.walk.proofs.Tree.root_at.Goals as goal
 
 pub loop-next-init : goal.loop-next-init
 loop-next-init c = outside-begins _ _ _ _

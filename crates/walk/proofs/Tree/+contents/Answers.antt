@@ -1,16 +1,16 @@
--- `walk::contents`, which calls itself for each child, meets its contract. The loop's invariant is `Inside`; the levels left fall by one
+-- `walk::Tree::contents`, which calls itself for each child, meets its contract. The loop's invariant is `Inside`; the levels left fall by one
 -- at each call. Assumes nothing.
 use Rattle.std.specs.Prelude.{Err}
 use mathlib.Core.Path.{◌≡◌, sym}
 use native.Mathlib.Omega.{arith}
 use borrow.Author.Rules.{rules}
 use Rattle.walk.proofs.Flow.{part-is, item-is, inside-begins, properties-stop, inside-skip, skip-moves, inside-close, inside-stop, inside-deep, inside-child, inside-child-stops, child-moves, inner-past, inner-stops, stops-with}
-use Rattle.walk.proofs.+contents.Goals as goal
+use Rattle.walk.proofs.Tree.+contents.Goals as goal
 
 pub returns-in_err-at : goal.returns-in_err-at
 returns-in_err-at t c =
     let r : c.from_residual.result ≡ Err c.in_err-at.field-0.0 = search rules in
-    stops-with _ _ _ _ _ _ r (properties-stop _ c.args.b _ _ _ c.in_err-at.ensures)
+    stops-with _ _ _ _ _ _ r (properties-stop _ c.args.self.now.blocks _ _ _ c.in_err-at.ensures)
 
 pub loop-next-init : goal.loop-next-init
 loop-next-init t c = (c.requires, inside-begins _ _ _ _ c.in_ok-at.ensures _)
@@ -39,7 +39,7 @@ pub returns-in_err-inner-in-Child : goal.returns-in_err-inner-in-Child
 returns-in_err-inner-in-Child t c =
     let l = c.loop-next.invariant in
     let k = item-is c.in_ok-next.ensures c.in-Child.is in
-    let w = inner-stops _ (omega (arith, c.if-levels-eq0.false)) l.0 c.args.tree.now c.args.b c.in-Child.child.next.at c.noted-now.result _ c.in_err-inner-in-Child.ensures in
+    let w = inner-stops _ (omega (arith, c.if-levels-eq0.false)) l.0 _ c.args.self.now.blocks _ c.noted-now.result _ c.in_err-inner-in-Child.ensures in
     let r : c.from_residual-in_err-inner-in-Child.result ≡ Err c.in_err-inner-in-Child.field-0.0 = search rules in
     stops-with _ _ _ _ _ _ r (inside-child-stops l.1 (omega (arith, c.if-levels-eq0.false)) k w)
 

@@ -1,9 +1,9 @@
--- `walk::closed_tree` meets its contract. Assumes nothing.
+-- `walk::Tree::closed_tree` meets its contract. Assumes nothing.
 use Rattle.std.specs.Prelude.{Err}
 use mathlib.Core.Path.{◌≡◌}
 use borrow.Author.Rules.{rules}
 use Rattle.walk.proofs.Whole.{closes}
-use Rattle.walk.proofs.closed_tree.Goals as goal
+use Rattle.walk.proofs.Tree.closed_tree.Goals as goal
 
 pub returns-in_err-last_at : goal.returns-in_err-last_at
 returns-in_err-last_at c =

@@ -1,9 +1,9 @@
--- `walk::walk_tree` meets its contract. Assumes nothing.
+-- `walk::Tree::walk_tree` meets its contract. Assumes nothing.
 use Rattle.std.specs.Prelude.{Err}
 use mathlib.Core.Path.{◌≡◌}
 use borrow.Author.Rules.{rules}
 use Rattle.walk.proofs.Whole.{root-refused, contents-refused, all_closed}
-use Rattle.walk.proofs.walk_tree.Goals as goal
+use Rattle.walk.proofs.Tree.walk_tree.Goals as goal
 
 pub returns-in_err-root : goal.returns-in_err-root
 returns-in_err-root c =

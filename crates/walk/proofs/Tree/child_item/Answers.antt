@@ -1,4 +1,4 @@
--- `walk::child_item` meets its contract. Assumes nothing.
+-- `walk::Tree::child_item` meets its contract. Assumes nothing.
 use Rattle.std.specs.Prelude.{Err}
 use mathlib.Core.Path.{◌≡◌, sym, ap, ◌∙◌}
 use native.Mathlib.Omega.{arith}
@@ -7,7 +7,7 @@ use Rattle.names.specs.Names.{name_outcome}
 use Rattle.names.proofs.NameLaws.{node-name-good}
 use Rattle.properties.proofs.LookBack.{not-given}
 use Rattle.walk.proofs.PartLaws.{child-named, child-read, child-bad}
-use Rattle.walk.proofs.child_item.Goals as goal
+use Rattle.walk.proofs.Tree.child_item.Goals as goal
 
 pub returns-in_err-length : goal.returns-in_err-length
 returns-in_err-length c =

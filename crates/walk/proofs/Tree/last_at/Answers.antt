@@ -1,10 +1,10 @@
--- `walk::last_at` meets its contract. The loop's invariant is `Outside`. Assumes nothing.
+-- `walk::Tree::last_at` meets its contract. The loop's invariant is `Outside`. Assumes nothing.
 use mathlib.Core.Path.{sym, ◌∙◌}
 use mathlib.Core.Logic.{inl, inr}
 use native.Mathlib.Omega.{arith}
 use Rattle.tokens.proofs.TokenList.{nop-moves}
 use Rattle.walk.proofs.Outside.{outside-begins, outside-nop, end-room, last-accepted, last-early, last-begin, last-end-node, last-property, last-fault}
-use Rattle.walk.proofs.last_at.Goals as goal
+use Rattle.walk.proofs.Tree.last_at.Goals as goal
 
 pub loop-next-init : goal.loop-next-init
 loop-next-init c = outside-begins _ _ _ _
@@ -18,11 +18,11 @@ loop-next-preserved c = outside-nop c.loop-next.invariant (sym c.step.ensures.va
 pub overflow_add-at : goal.overflow_add-at
 overflow_add-at c = omega (arith, end-room _ _ _ (sym c.step.ensures.value ∙ c.in-End.is))
 
-pub returns-then-at-b : goal.returns-then-at-b
-returns-then-at-b c = last-accepted c.loop-next.invariant (sym c.step.ensures.value ∙ c.in-End.is) c.if-at-b.true
+pub returns-then-at-self : goal.returns-then-at-self
+returns-then-at-self c = last-accepted c.loop-next.invariant (sym c.step.ensures.value ∙ c.in-End.is) c.if-at-self.true
 
 pub returns-in-End : goal.returns-in-End
-returns-in-End c = rw c.at.ensures (last-early c.loop-next.invariant (sym c.step.ensures.value ∙ c.in-End.is) c.if-at-b.false)
+returns-in-End c = rw c.at.ensures (last-early c.loop-next.invariant (sym c.step.ensures.value ∙ c.in-End.is) c.if-at-self.false)
 
 pub returns-in-BeginNode : goal.returns-in-BeginNode
 returns-in-BeginNode c =
