@@ -15,7 +15,7 @@ ghost use Rattle.walk.specs.Checked.{judge, check_tree, checked_outcome};
 ghost use Rattle.walk.specs.Parts.{part_of, child_part, part_at, none, note, Reads, Ends, Closes};
 
 use header::Blocks;
-use properties::StringsBlock;
+use properties::{Properties, StringsBlock};
 use refusal::{Refusal, RefusedAt};
 use tokens::{Cursor, Step};
 
@@ -66,10 +66,17 @@ fn properties_at(tree: &[u8], b: Blocks, from: usize) -> Result<usize, RefusedAt
     ensures { properties_outcome result ≡ read_properties b.end [] (tree_tokens tree.now b from) }
 {
     let strings = StringsBlock {
+        bytes: tree,
         from: b.strings,
         limit: b.limit,
     };
-    properties::read_properties(tree, b.end, from, tree, strings)
+    let properties = Properties {
+        bytes: tree,
+        end: b.end,
+        first: from,
+        strings,
+    };
+    properties.read_properties()
 }
 
 // A child node at `t`, whose name begins at `from`.
