@@ -1,7 +1,8 @@
 // A property of a CPU node, looked up in the node's own block of properties and then in that of its parent, `/cpus`.
 #![tactic(auto)]
 
-ghost use Rattle.std.specs.Prelude.{◌≡◌, length as length-of};
+ghost use Rattle.std.specs.Prelude.{◌≡◌};
+ghost use Rattle.properties.specs.Properties.{name_at};
 ghost use Rattle.lookup.specs.Lookup.{
   block_of,
   lookup as lookup_in,
@@ -11,7 +12,7 @@ ghost use Rattle.lookup.specs.Lookup.{
   looked_outcome,
   part_of,
 };
-ghost use Rattle.lookup.specs.Parts.{Stands, Reads};
+ghost use Rattle.lookup.specs.Parts.{name_in, Stands, Reads};
 
 use properties::{Properties, StringsBlock};
 use refusal::Refusal;
@@ -46,8 +47,8 @@ enum Entry {
 }
 
 // Bytes that are a strings block as a whole.
-fn whole(strings: &[u8]) -> StringsBlock
-    ensures { (result.bytes.now ≡ strings.now) × (result.from ≡ 0) × (result.limit ≡ length-of strings.now) }
+fn whole(strings: &[u8]) -> StringsBlock<'_>
+    ensures { name_at result.bytes.now result.from result.limit ≡ name_in strings.now }
 {
     StringsBlock {
         bytes: strings,
