@@ -2,6 +2,7 @@
 #![tactic(auto)]
 
 ghost use Rattle.std.specs.Prelude.{◌≡◌};
+ghost use Rattle.properties.specs.Properties.{name_at};
 ghost use Rattle.lookup.specs.Lookup.{
   block_of,
   lookup as lookup_in,
@@ -11,9 +12,9 @@ ghost use Rattle.lookup.specs.Lookup.{
   looked_outcome,
   part_of,
 };
-ghost use Rattle.lookup.specs.Parts.{Stands, Reads};
+ghost use Rattle.lookup.specs.Parts.{name_in, Stands, Reads};
 
-use properties::StringsBlock;
+use properties::{Properties, StringsBlock};
 use refusal::Refusal;
 use tokens::{Cursor, Step};
 
@@ -45,6 +46,17 @@ enum Entry {
     Skip(Cursor),
 }
 
+// Bytes that are a strings block as a whole.
+fn whole(strings: &[u8]) -> StringsBlock<'_>
+    ensures { name_at result.bytes.now result.from result.limit ≡ name_in strings.now }
+{
+    StringsBlock {
+        bytes: strings,
+        from: 0,
+        limit: strings.len(),
+    }
+}
+
 // What stands at a place of a block. At one token 6 comes before 7 and 9.
 fn entry_at(block: &[u8], strings: &[u8], cursor: Cursor) -> Result<Entry, Refusal>
     ensures { Stands block.now strings.now cursor.at result }
@@ -58,11 +70,13 @@ fn entry_at(block: &[u8], strings: &[u8], cursor: Cursor) -> Result<Entry, Refus
             next,
             ..
         } => {
-            let all = StringsBlock {
-                from: 0,
-                limit: strings.len(),
+            let properties = Properties {
+                bytes: block,
+                end,
+                first: 0,
+                strings: whole(strings),
             };
-            properties::name_refusal(block, end, 0, at, strings, all, name)?;
+            properties.name_refusal(at, name)?;
             let span = Span {
                 from: at,
                 to: at + HEAD + length,
@@ -82,16 +96,13 @@ fn entry_at(block: &[u8], strings: &[u8], cursor: Cursor) -> Result<Entry, Refus
 fn read_block(block: &[u8], strings: &[u8], name: &[u8]) -> Result<Option<Span>, Refusal>
     ensures { Reads name.now (block_of block.now strings.now) result }
 {
-    let all = StringsBlock {
-        from: 0,
-        limit: strings.len(),
-    };
+    let all = whole(strings);
     let mut hit = None;
     let mut cursor = Cursor { at: 0 };
     while cursor.at < block.len() {
         match entry_at(block, strings, cursor)? {
             Entry::Named { offset, span, next } => {
-                if hit.is_none() && properties::is_named(strings, all, offset, name) {
+                if hit.is_none() && all.is_named(offset, name) {
                     hit = Some(span);
                 }
                 cursor = next;

@@ -52,6 +52,7 @@ fn value_within(tree: &[u8], b: Blocks, first: usize, name: &[u8]) -> Option<Ext
 {
     let end = b.end;
     let strings = StringsBlock {
+        bytes: tree,
         from: b.strings,
         limit: b.limit,
     };
@@ -66,7 +67,7 @@ fn value_within(tree: &[u8], b: Blocks, first: usize, name: &[u8]) -> Option<Ext
                 next,
                 ..
             } => {
-                if properties::is_named(tree, strings, offset, name) {
+                if strings.is_named(offset, name) {
                     return Some(Extent {
                         from: value,
                         length,

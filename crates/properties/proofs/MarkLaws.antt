@@ -2,11 +2,11 @@
 use mathlib.Core.Path.{◌≡◌, refl, sym, ap, ◌∙◌}
 use mathlib.Core.Bool.{Bool, true, false}
 use mathlib.Core.List.{List, [], ◌∷◌, ◌++◌}
-use Prim.Native.Nat.{ℕ, ◌+◌, ◌-◌, ◌*◌, ◌/◌, ◌%◌, ◌≤◌, min}
+use Prim.Native.Nat.{ℕ, ◌+◌, ◌-◌, ◌*◌, ◌/◌, ◌%◌, ◌<◌, ◌≤◌, min}
 use native.Mathlib.Omega.{arith}
 use native.Mathlib.Decide.{dec_le, ℕ_discrete}
-use lib.ListN.{length, get_or, get_or-eq_default, set, take, drop, length-set}
-use lib.Seq.{get_or-set_same, get_or-set_other}
+use lib.ListN.{length, get_or, get_or-eq_default, set, take, drop, length-take, length-drop, length-set}
+use lib.Seq.{take-take, get_or-set_same, get_or-set_other}
 use Rattle.refusal.specs.Refusal.{answer, refuse}
 use Rattle.strings.specs.Strings.{Text, ended, unended, text_at}
 use Rattle.strings.proofs.Strings.{text-taken, same_true}
@@ -30,14 +30,19 @@ pub mark-some : (s : List ℕ) {a b c d : ℕ} → a ≡ get_or s 0 0 → b ≡ 
 unfolding mark_from
 mark-some s e f g h = rw (e, f, g, h)
 
+-- a run of bytes that ends in a list is as long as it says
+pub cut-long : (s : List ℕ) (from n : ℕ) → from + n < length s → n ≡ length (take n (take (length s - from) (drop from s)))
+cut-long s from n h =
+    omega (arith, length-take n (take (length s - from) (drop from s)), length-take (length s - from) (drop from s), length-drop from s)
+
 -- a good name: its mark is that of its bytes, and it is looked back for where that mark is set
 module _ (bytes : List ℕ) (from limit offset : ℕ) {place : ℕ} (q : place ≡ min limit (from + offset)) {n : ℕ} (e : property_name_at bytes place limit ≡ answer n) where
-  pub mark-read : {mark : ℕ} → mark ≡ mark_from (take (place + n - place) (drop place bytes)) → mark ≡ mark_of (name_at bytes from limit offset)
+  pub mark-read : {mark : ℕ} → mark ≡ mark_from (take n (take (length bytes - place) (drop place bytes))) → mark ≡ mark_of (name_at bytes from limit offset)
   unfolding mark_of
   mark-read k =
       let g = property-name-good bytes place limit n e in
-      let l : place + n - place ≡ length g.characters = omega (arith, g.long) in
-      k ∙ ap (λ (m : ℕ). mark_from (take m (drop place bytes))) l ∙ ap mark_from (text-taken bytes place limit g.characters g.text) ∙ ap mark_of (sym g.text ∙ here bytes from limit offset q)
+      k ∙ ap mark_from (take-take n (length bytes - place) (drop place bytes) (omega (arith, g.in_bytes)))
+      ∙ ap (λ (m : ℕ). mark_from (take m (drop place bytes))) (sym g.long) ∙ ap mark_from (text-taken bytes place limit g.characters g.text) ∙ ap mark_of (sym g.text ∙ here bytes from limit offset q)
 
   module _ (marks : List Bool) {mark : ℕ} (m : mark ≡ mark_of (name_at bytes from limit offset)) where
     pub mark-put : {later : List Bool} → later ≡ set marks mark true → later ≡ with_mark (name_at bytes from limit offset) marks

@@ -19,55 +19,30 @@ ghost use Rattle.properties.specs.Properties.{
 use refusal::{Refusal, RefusedAt};
 use tokens::{Cursor, Step};
 
-// Where a strings block begins and ends, in the bytes that hold it.
+// A strings block: the bytes that hold it, and where it begins and ends in them.
 #[derive(Clone, Copy, Debug, PartialEq, Eq)]
-pub struct StringsBlock {
+pub struct StringsBlock<'a> {
+    pub bytes: &'a [u8],
     pub from: usize,
     pub limit: usize,
 }
 
-// The place of a name: past the block's end where its offset is.
-fn name_place(b: StringsBlock, offset: usize) -> usize
-    ensures { result ≡ min b.limit (b.from + offset) }
-{
-    b.limit.min(b.from.saturating_add(offset))
-}
-
-// Whether the name at an offset of the strings block has exactly some characters.
-pub fn is_named(strings: &[u8], b: StringsBlock, offset: usize, name: &[u8]) -> bool
-    ensures { result ≡ same_text (name_at strings.now b.from b.limit offset) (ended name.now) }
-{
-    matching::has_name(strings, name_place(b, offset), b.limit, name)
-}
-
-// Whether a property from `first` on and before `t`, in a block of tokens that ends at `end`, has the name at `place`.
-fn given(
-    s: &[u8],
-    end: usize,
-    first: usize,
-    t: usize,
-    strings: &[u8],
-    b: StringsBlock,
-    place: usize,
-) -> bool
-    ensures { result
-        ≡ given_before t (text_at strings.now place b.limit)
-        (tokens s.now end (name_at strings.now b.from b.limit) first) }
-{
-    let mut cursor = Cursor { at: first };
-    while cursor.at < t {
-        match cursor.step(s, end) {
-            Step::Property { name, next, .. } => {
-                if matching::same_name(strings, name_place(b, name), place, b.limit) {
-                    return true;
-                }
-                cursor = next;
-            }
-            Step::Nop { next, .. } => cursor = next,
-            _ => return false,
-        }
+impl StringsBlock<'_> {
+    // The place of a name: past the block's end where its offset is.
+    fn name_place(&self, offset: usize) -> usize
+        ensures { result ≡ min self.now.limit (self.now.from + offset) }
+    {
+        self.limit.min(self.from.saturating_add(offset))
     }
-    false
+
+    // Whether the name at an offset has exactly some characters.
+    pub fn is_named(&self, offset: usize, name: &[u8]) -> bool
+        ensures { result
+            ≡ same_text (name_at self.now.bytes.now self.now.from self.now.limit offset)
+            (ended name.now) }
+    {
+        matching::has_name(self.bytes, self.name_place(offset), self.limit, name)
+    }
 }
 
 // How many marks there are.
@@ -107,102 +82,105 @@ fn set_mark(marks: &mut [bool], mark: usize) -> bool
     }
 }
 
-// Refusal 9 where an earlier property has the name at `place`, as `given` says.
-fn repetition(
-    s: &[u8],
-    end: usize,
-    first: usize,
-    t: usize,
-    strings: &[u8],
-    b: StringsBlock,
-    place: usize,
-) -> Result<(), Refusal>
-    ensures { number_in result
-        ≡ pick (given_before t (text_at strings.now place b.limit)
-        (tokens s.now end (name_at strings.now b.from b.limit) first)) 9 0 }
-{
-    if given(s, end, first, t, strings, b, place) {
-        return Err(Refusal::Repeated);
+// The properties of one node or block: the block of tokens with its end, where the first of them begins, and the block of their names.
+#[derive(Clone, Copy, Debug, PartialEq, Eq)]
+pub struct Properties<'a> {
+    pub bytes: &'a [u8],
+    pub end: usize,
+    pub first: usize,
+    pub strings: StringsBlock<'a>,
+}
+
+impl Properties<'_> {
+    // Whether one of them before `t` has the name at `place`.
+    fn given(&self, t: usize, place: usize) -> bool
+        ensures { result
+            ≡ given_before t (text_at self.now.strings.bytes.now place self.now.strings.limit)
+            (tokens self.now.bytes.now self.now.end (name_at self.now.strings.bytes.now self.now.strings.from self.now.strings.limit) self.now.first) }
+    {
+        let mut cursor = Cursor { at: self.first };
+        while cursor.at < t {
+            match cursor.step(self.bytes, self.end) {
+                Step::Property { name, next, .. } => {
+                    let b = self.strings;
+                    if matching::same_name(b.bytes, b.name_place(name), place, b.limit) {
+                        return true;
+                    }
+                    cursor = next;
+                }
+                Step::Nop { next, .. } => cursor = next,
+                _ => return false,
+            }
+        }
+        false
     }
-    Ok(())
-}
 
-// The refusal of the name at an offset of the strings block, of a property at `t` whose node's or block's properties begin at
-// `first`: 7, then 9.
-pub fn name_refusal(
-    s: &[u8],
-    end: usize,
-    first: usize,
-    t: usize,
-    strings: &[u8],
-    b: StringsBlock,
-    offset: usize,
-) -> Result<(), Refusal>
-    ensures { number_in result
-        ≡ name_fault (name_at strings.now b.from b.limit offset)
-        (given_before t (name_at strings.now b.from b.limit offset)
-        (tokens s.now end (name_at strings.now b.from b.limit) first)) }
-{
-    let place = name_place(b, offset);
-    names::property_name(strings, place, b.limit).ok_or(Refusal::Name)?;
-    repetition(s, end, first, t, strings, b, place)
-}
-
-// The same, where `marks` has the marks of the earlier names: 9 is looked for only if the name's mark is set, and the mark is set then.
-fn marked_refusal(
-    s: &[u8],
-    end: usize,
-    first: usize,
-    t: usize,
-    strings: &[u8],
-    b: StringsBlock,
-    offset: usize,
-    marks: &mut [bool],
-) -> Result<(), Refusal>
-    ensures result_value { number_in result
-        ≡ name_fault (name_at strings.now b.from b.limit offset)
-        (both (is_set marks.old (mark_of (name_at strings.now b.from b.limit offset)))
-        (given_before t (name_at strings.now b.from b.limit offset)
-        (tokens s.now end (name_at strings.now b.from b.limit) first))) }
-    ensures marks_after { marks.new ≡ with_mark (name_at strings.now b.from b.limit offset) marks.old }
-{
-    let place = name_place(b, offset);
-    let length = names::property_name(strings, place, b.limit).ok_or(Refusal::Name)?;
-    if set_mark(marks, mark_of(&strings[place..place + length])) {
-        repetition(s, end, first, t, strings, b, place)
-    } else {
+    // Refusal 9 where one of them before `t` has the name at `place`.
+    fn repetition(&self, t: usize, place: usize) -> Result<(), Refusal>
+        ensures { number_in result
+            ≡ pick (given_before t (text_at self.now.strings.bytes.now place self.now.strings.limit)
+            (tokens self.now.bytes.now self.now.end (name_at self.now.strings.bytes.now self.now.strings.from self.now.strings.limit) self.now.first)) 9 0 }
+    {
+        if self.given(t, place) {
+            return Err(Refusal::Repeated);
+        }
         Ok(())
     }
-}
 
-// The properties that begin at `first`, of one node, in a block of tokens that ends at `end`, up to the first token that is neither a
-// property nor a NOP: that token's place. Refusals: 7, 9, at the property's token. At most 63 bytes of a name are read; the properties
-// before it are looked at again only where one of them has the name's mark.
-pub fn read_properties(
-    s: &[u8],
-    end: usize,
-    first: usize,
-    strings: &[u8],
-    b: StringsBlock,
-) -> Result<usize, RefusedAt>
-    ensures { properties_outcome result
-        ≡ read_properties end []
-        (tokens s.now end (name_at strings.now b.from b.limit) first) }
-{
-    let mut marks = [false; MARKS];
-    let mut cursor = Cursor { at: first };
-    loop {
-        match cursor.step(s, end) {
-            Step::Property { at, name, next, .. } => {
-                let read = marked_refusal(s, end, first, at, strings, b, name, &mut marks);
-                read.map_err(|refusal| refusal.at(at))?;
-                cursor = next;
+    // The refusal of the name at an offset of the strings block, of a property at `t`: 7, then 9.
+    pub fn name_refusal(&self, t: usize, offset: usize) -> Result<(), Refusal>
+        ensures { number_in result
+            ≡ name_fault (name_at self.now.strings.bytes.now self.now.strings.from self.now.strings.limit offset)
+            (given_before t (name_at self.now.strings.bytes.now self.now.strings.from self.now.strings.limit offset)
+            (tokens self.now.bytes.now self.now.end (name_at self.now.strings.bytes.now self.now.strings.from self.now.strings.limit) self.now.first)) }
+    {
+        let b = self.strings;
+        let place = b.name_place(offset);
+        names::property_name(b.bytes, place, b.limit).ok_or(Refusal::Name)?;
+        self.repetition(t, place)
+    }
+
+    // The same, where `marks` has the marks of the earlier names: 9 is looked for only if the name's mark is set, and the mark is set then.
+    fn marked_refusal(&self, t: usize, offset: usize, marks: &mut [bool]) -> Result<(), Refusal>
+        ensures result_value { number_in result
+            ≡ name_fault (name_at self.now.strings.bytes.now self.now.strings.from self.now.strings.limit offset)
+            (both (is_set marks.old (mark_of (name_at self.now.strings.bytes.now self.now.strings.from self.now.strings.limit offset)))
+            (given_before t (name_at self.now.strings.bytes.now self.now.strings.from self.now.strings.limit offset)
+            (tokens self.now.bytes.now self.now.end (name_at self.now.strings.bytes.now self.now.strings.from self.now.strings.limit) self.now.first))) }
+        ensures marks_after { marks.new ≡ with_mark (name_at self.now.strings.bytes.now self.now.strings.from self.now.strings.limit offset) marks.old }
+    {
+        let b = self.strings;
+        let place = b.name_place(offset);
+        let length = names::property_name(b.bytes, place, b.limit).ok_or(Refusal::Name)?;
+        if set_mark(marks, mark_of(&b.bytes[place..][..length])) {
+            self.repetition(t, place)
+        } else {
+            Ok(())
+        }
+    }
+
+    // All of them, up to the first token that is neither a property nor a NOP: that token's place. Refusals: 7, 9, at the property's
+    // token. At most 63 bytes of a name are read; the properties before it are looked at again only where one of them has the name's
+    // mark.
+    pub fn read_properties(&self) -> Result<usize, RefusedAt>
+        ensures { properties_outcome result ≡ read_properties self.now.end []
+            (tokens self.now.bytes.now self.now.end (name_at self.now.strings.bytes.now self.now.strings.from self.now.strings.limit) self.now.first) }
+    {
+        let mut marks = [false; MARKS];
+        let mut cursor = Cursor { at: self.first };
+        loop {
+            match cursor.step(self.bytes, self.end) {
+                Step::Property { at, name, next, .. } => {
+                    let read = self.marked_refusal(at, name, &mut marks);
+                    read.map_err(|refusal| refusal.at(at))?;
+                    cursor = next;
+                }
+                Step::Nop { next, .. } => cursor = next,
+                Step::BeginNode { at, .. }
+                | Step::EndNode { at, .. }
+                | Step::End { at }
+                | Step::Fault { at } => return Ok(at),
             }
-            Step::Nop { next, .. } => cursor = next,
-            Step::BeginNode { at, .. }
-            | Step::EndNode { at, .. }
-            | Step::End { at }
-            | Step::Fault { at } => return Ok(at),
         }
     }
 }

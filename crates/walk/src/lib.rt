@@ -15,7 +15,7 @@ ghost use Rattle.walk.specs.Checked.{judge, check_tree, checked_outcome};
 ghost use Rattle.walk.specs.Parts.{part_of, child_part, part_at, none, note, Reads, Ends, Closes};
 
 use header::Blocks;
-use properties::StringsBlock;
+use properties::{Properties, StringsBlock};
 use refusal::{Refusal, RefusedAt};
 use tokens::{Cursor, Step};
 
@@ -80,10 +80,17 @@ impl Tree<'_> {
         ensures { properties_outcome result ≡ read_properties self.now.blocks.end [] (tree_tokens self.now.bytes.now self.now.blocks from) }
     {
         let strings = StringsBlock {
+            bytes: self.bytes,
             from: self.blocks.strings,
             limit: self.blocks.limit,
         };
-        properties::read_properties(self.bytes, self.blocks.end, from, self.bytes, strings)
+        let properties = Properties {
+            bytes: self.bytes,
+            end: self.blocks.end,
+            first: from,
+            strings,
+        };
+        properties.read_properties()
     }
 
     // A child node at `t`, whose name begins at `from`.

@@ -10,7 +10,7 @@ use Rattle.lookup.proofs.entry_at.Goals as goal
 pub returns-in_err-name_refusal-in-Property : goal.returns-in_err-name_refusal-in-Property
 returns-in_err-name_refusal-in-Property c =
     let r : c.from_residual.result ≡ Err c.in_err-name_refusal-in-Property.field-0.0 = search rules in
-    rw r (misnamed (sym c.step.ensures.value ∙ c.in-Property.is) c.in_err-name_refusal-in-Property.ensures)
+    rw r (misnamed (sym c.step.ensures.value ∙ c.in-Property.is) (rw c.whole.ensures at c.in_err-name_refusal-in-Property.ensures))
 
 pub overflow_add-span : goal.overflow_add-span
 overflow_add-span c = let g = lies _ _ (sym c.step.ensures.value ∙ c.in-Property.is) in omega arith
@@ -19,7 +19,7 @@ pub overflow_add-span-in-Property : goal.overflow_add-span-in-Property
 overflow_add-span-in-Property c = let g = lies _ _ (sym c.step.ensures.value ∙ c.in-Property.is) in omega arith
 
 pub returns-in_ok-name_refusal-in-Property : goal.returns-in_ok-name_refusal-in-Property
-returns-in_ok-name_refusal-in-Property c = stands-named _ _ (sym c.step.ensures.value ∙ c.in-Property.is) _ c.in_ok-name_refusal-in-Property.ensures
+returns-in_ok-name_refusal-in-Property c = stands-named _ _ (sym c.step.ensures.value ∙ c.in-Property.is) _ (rw c.whole.ensures at c.in_ok-name_refusal-in-Property.ensures)
 
 pub returns-in-Nop : goal.returns-in-Nop
 returns-in-Nop c = skipped (sym c.step.ensures.value ∙ c.in-Nop.is)

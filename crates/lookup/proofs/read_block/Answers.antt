@@ -23,7 +23,7 @@ loop-cursor-smaller-then-is_named c = let m = named-moves (entry-is c.in_ok-offs
 pub loop-cursor-preserved-then-is_named : goal.loop-cursor-preserved-then-is_named
 loop-cursor-preserved-then-is_named c =
     let e = entry-is c.in_ok-offset.ensures c.in-Named.is in
-    reading-named c.loop-cursor.invariant (omega arith) e (hit-here _ _ c.in-Named.span c.if-is_none.ensures c.if-is_named.ensures)
+    reading-named c.loop-cursor.invariant (omega arith) e (hit-here _ _ c.in-Named.span c.if-is_none.ensures (rw c.whole-all.ensures at c.if-is_named.ensures))
 
 pub loop-cursor-smaller-else-is_none : goal.loop-cursor-smaller-else-is_none
 loop-cursor-smaller-else-is_none c = let m = named-moves (entry-is c.in_ok-offset.ensures c.in-Named.is) in omega arith
@@ -33,7 +33,7 @@ loop-cursor-preserved-else-is_none c =
     let e = entry-is c.in_ok-offset.ensures c.in-Named.is in
     reading-named c.loop-cursor.invariant (omega arith) e
     (elim c.else-is_none.branch [
-      | not-named w ↦ hit_other _ _ c.in-Named.span w.if-is_named.ensures
+      | not-named w ↦ hit_other _ _ c.in-Named.span (rw c.whole-all.ensures at w.if-is_named.ensures)
       | found-before w ↦ hit_stays _ _ c.in-Named.span w.if-is_none.ensures
     ])
 

@@ -1,4 +1,4 @@
--- `properties::read_properties` meets its contract: the properties read so far, and that those left decide. Assumes nothing.
+-- `properties::Properties::read_properties` meets its contract: the properties read so far, and that those left decide. Assumes nothing.
 use mathlib.Core.Path.{◌≡◌, refl, sym, ap, ◌∙◌}
 use native.Mathlib.Omega.{arith}
 use lib.ListN.{length}
@@ -10,7 +10,7 @@ use Rattle.tokens.proofs.TokenList.{property-moves, nop-moves}
 use Rattle.properties.proofs.MarkLaws.{with-long}
 use Rattle.properties.proofs.Placed.{was_ok, was_err}
 use Rattle.properties.proofs.ReadLaws.{read-begins, read-nop, read-refused, read-property, read-begin, read-end-node, read-end, read-fault}
-use Rattle.properties.proofs.read_properties.Goals as goal
+use Rattle.properties.proofs.Properties.read_properties.Goals as goal
 
 pub loop-at-init : goal.loop-at-init
 loop-at-init c = (refl, read-begins _ _ _ _ _)

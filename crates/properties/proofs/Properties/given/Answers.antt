@@ -1,9 +1,9 @@
--- `properties::given` meets its contract: what is left of the look-back decides the whole. Assumes nothing.
+-- `properties::Properties::given` meets its contract: what is left of the look-back decides the whole. Assumes nothing.
 use mathlib.Core.Path.{sym, ◌∙◌}
 use native.Mathlib.Omega.{arith}
 use Rattle.tokens.proofs.TokenList.{property-moves, nop-moves}
 use Rattle.properties.proofs.LookBack.{none_before, before_same, before-other, before-nop, before-none}
-use Rattle.properties.proofs.given.Goals as goal
+use Rattle.properties.proofs.Properties.given.Goals as goal
 
 pub returns-then-same_name : goal.returns-then-same_name
 returns-then-same_name c =

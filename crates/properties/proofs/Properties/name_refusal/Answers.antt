@@ -1,10 +1,10 @@
--- `properties::name_refusal` meets its contract. Assumes nothing.
+-- `properties::Properties::name_refusal` meets its contract. Assumes nothing.
 use mathlib.Core.Path.{◌≡◌, sym, ap, ◌∙◌}
 use borrow.Author.Rules.{rules}
 use Rattle.refusal.specs.Refusal.{number_of, number_in}
 use Rattle.names.specs.Names.{name_outcome}
 use Rattle.properties.proofs.LookBack.{name-given, bad-fault, not-given, was-given}
-use Rattle.properties.proofs.name_refusal.Goals as goal
+use Rattle.properties.proofs.Properties.name_refusal.Goals as goal
 
 pub returns-in_err-ok_or : goal.returns-in_err-ok_or
 returns-in_err-ok_or c =
