@@ -1,4 +1,4 @@
-// Answers as C takes them: the number of a refusal in the place of the enum, which cannot cross to C, and the same values beside it.
+// Answers as C takes them: the number of a refusal in the place of the enum, which cannot cross to C, and the value or zeros beside it.
 #![tactic(auto)]
 
 ghost use Rattle.std.specs.Prelude.{◌≡◌};

@@ -29,6 +29,7 @@ use refusal::Refusal;
 pub const MOST_BYTES: usize = 254;
 
 // The editions of `ibm,pa-features`. In the first, bytes from `FIRST_LATER` on are ignored.
+// Numbers, as C has them: `pa_features` takes any, and one that is no edition is 15.
 pub const EDITION_FIRST: u32 = 0;
 
 pub const EDITION_LATER: u32 = 1;
@@ -38,7 +39,7 @@ pub const FIRST_LATER: usize = 24;
 
 pub const LATER_BYTES: usize = 230;
 
-// The attributes of `ibm,pa-features`; each flag is 0 or 1. Bytes 0 to 5 are raw, and those from `FIRST_LATER` on.
+// The attributes of `ibm,pa-features`; each flag is 0 or 1, as C has it. Bytes 0 to 5 are raw, and those from `FIRST_LATER` on.
 #[repr(C)]
 #[derive(Clone, Copy)]
 pub struct PaTable {
@@ -77,7 +78,7 @@ impl Default for PaTable {
     }
 }
 
-// The bytes of `ibm,pi-features`, and zeros.
+// The bytes of `ibm,pi-features`, and zeros. Laid out for C, so that the count stands beside the array.
 #[repr(C)]
 #[derive(Clone, Copy)]
 pub struct PiTable {
@@ -129,6 +130,7 @@ fn type_zero(value: &[u8]) -> Result<&[u8], Refusal>
     let mut found: usize = 0;
     let mut bytes: &[u8] = &[];
     let mut at = 0;
+    // A cursor, which each descriptor moves on by its length: no index is counted.
     while at < value.len() {
         check_descriptor(value, at)?;
         let start = at + 2;
@@ -146,7 +148,7 @@ fn type_zero(value: &[u8]) -> Result<&[u8], Refusal>
     }
 }
 
-// Puts bytes into the front of a row.
+// Puts bytes into the front of a row, for both tables.
 fn put_bytes(row: &mut [u8], bytes: &[u8])
     requires { length bytes.now ≤ length row.old }
     ensures { row.new ≡ written row.old 0 bytes.now }

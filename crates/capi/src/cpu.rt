@@ -5,7 +5,7 @@ ghost use Rattle.capi.specs.Properties.{find_property, property_outcome_c};
 
 use lookup::Found;
 
-// The blocks in which a property is found: 0 is neither.
+// The blocks in which a property is found, as numbers for C: 0 is neither.
 pub const CPU_BLOCK: u32 = 1;
 
 pub const PARENT_BLOCK: u32 = 2;

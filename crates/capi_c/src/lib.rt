@@ -1,5 +1,5 @@
 // The C interface, as a static library: each function of `capi`, under its name there, with its clauses. `include/yebkuzan.h` declares it
-// for C.
+// for C. No crate can use a static library, so that each function stands here and in `capi`, on which `cases` rests.
 #![tactic(auto)]
 
 mod cpu;

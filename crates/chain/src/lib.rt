@@ -15,7 +15,8 @@ use record::{MOST_FEATURES, Record, SLOTS};
 use refusal::Refusal;
 use tables::{Graph, TABLE_WORDS, Table};
 
-// What sweeps leave of the permitted set, the set itself first: the first `held` of these layers hold a position, and the next does not.
+// What sweeps leave of the permitted set, the set itself first: the first `held` of these layers hold a position, and the next does not. There is
+// no heap, so that the number stands beside an array.
 #[derive(Clone, Copy)]
 struct Layers {
     held: usize,

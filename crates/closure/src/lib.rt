@@ -83,7 +83,7 @@ fn highest(s: Set) -> Option<usize>
     None
 }
 
-// The lowest member of a set or the highest, if it has one.
+// The lowest member of a set or the highest, if it has one: one of two calls, which a flag says in fewer words than a closure.
 fn outermost(s: Set, lowest: bool) -> Option<usize>
     ensures { Picks s.words result }
 {
@@ -104,6 +104,7 @@ fn next_pass(g: Graph, x: Left, upward: bool) -> Left
         members: x.members,
         needy: positions::empty(),
     };
+    // By the members of a set that are left to do, and not by an index.
     while let Some(i) = outermost(todo, upward) {
         todo = positions::remove(todo, i);
         y = tested(g.dependencies(i), i, y);
@@ -122,6 +123,7 @@ pub fn closed_part(slots: &[u16; SLOTS], counts: &[u8; MOST_FEATURES], n: usize,
     let mut old = sets::intersection(p, positions::below(g.n));
     let mut x = first_pass(g, old);
     let mut upward = false;
+    // Until a pass takes nothing out: how many passes that takes is not known before.
     while !sets::subset(old, x.members) {
         old = x.members;
         x = next_pass(g, x, upward);

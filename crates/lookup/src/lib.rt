@@ -99,6 +99,7 @@ fn read_block(block: &[u8], strings: &[u8], name: &[u8]) -> Result<Option<Span>,
     let all = whole(strings);
     let mut hit = None;
     let mut cursor = Cursor { at: 0 };
+    // By a cursor, which each entry moves on: no index is counted.
     while cursor.at < block.len() {
         match entry_at(block, strings, cursor)? {
             Entry::Named { offset, span, next } => {

@@ -38,7 +38,8 @@ pub struct NodePlace {
     pub behind: usize,
 }
 
-// The children of a node, in tree order: the places of at most 64, and where one more begins.
+// The children of a node, in tree order: the places of at most 64, and where one more begins. There is no heap, so that the count stands beside
+// an array.
 #[derive(Clone, Copy)]
 pub struct ChildPlaces {
     pub count: usize,
@@ -57,6 +58,7 @@ fn value_within(tree: &[u8], b: Blocks, first: usize, name: &[u8]) -> Option<Ext
         limit: b.limit,
     };
     let mut at = first;
+    // A cursor, which each token moves on: no index is counted.
     while at < end {
         let here = Cursor { at };
         match here.step(tree, end) {
@@ -155,6 +157,7 @@ pub fn child_places(tree: &[u8], b: Blocks, first: usize) -> ChildPlaces
     };
     let mut depth: usize = 0;
     let mut at = first;
+    // A cursor, as above.
     while at < b.end {
         match move_at(tree, b, depth, at) {
             Move::Child { at: t, name, next } => {

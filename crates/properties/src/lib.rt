@@ -99,6 +99,7 @@ impl Properties<'_> {
             (tokens self.now.bytes.now self.now.end (name_at self.now.strings.bytes.now self.now.strings.from self.now.strings.limit) self.now.first) }
     {
         let mut cursor = Cursor { at: self.first };
+        // By a cursor, which each token moves on: no index is counted.
         while cursor.at < t {
             match cursor.step(self.bytes, self.end) {
                 Step::Property { name, next, .. } => {
@@ -168,6 +169,7 @@ impl Properties<'_> {
     {
         let mut marks = [false; MARKS];
         let mut cursor = Cursor { at: self.first };
+        // By a cursor, as above; the token that ends the properties ends the loop.
         loop {
             match cursor.step(self.bytes, self.end) {
                 Step::Property { at, name, next, .. } => {

@@ -16,7 +16,7 @@ pub struct RadixEncoding {
     pub exponent: u32,
 }
 
-// The encodings of a table, and zeros.
+// The encodings of a table, and zeros. Laid out for C, so that the count stands beside the array.
 #[repr(C)]
 #[derive(Clone, Copy)]
 pub struct RadixTable {

@@ -32,7 +32,7 @@ pub struct Page {
     pub encoding: u32,
 }
 
-// A base page size, its SLB encoding, and its pages; zeros from the count on.
+// A base page size, its SLB encoding, and its pages; zeros from the count on. Laid out for C, so that the count stands beside the array.
 #[repr(C)]
 #[derive(Clone, Copy)]
 pub struct Descriptor {
@@ -42,6 +42,7 @@ pub struct Descriptor {
     pub pages: [Page; 8],
 }
 
+// The descriptors of a table, and zeros. Laid out for C.
 #[repr(C)]
 #[derive(Clone, Copy)]
 pub struct SegmentTable {

@@ -20,7 +20,7 @@ pub const NO_SIZE: u32 = 0xffffffff;
 pub const AP_BIT: u32 = 0x20000000;
 
 // The cells of a table, each in its place, and zeros. Of page sizes each is an exponent; of segment sizes `size_or_none` says what it is;
-// of radix encodings the exponent is what is below `AP_BIT`.
+// of radix encodings the exponent is what is below `AP_BIT`. Laid out for C, so that the count stands beside the array.
 #[repr(C)]
 #[derive(Clone, Copy)]
 pub struct SizeTable {

@@ -26,6 +26,7 @@ fn scan(list: &[u8], text: &[u8], sought: usize) -> Result<StringAt, usize>
     ensures { result ≡ stop_in text.now sought 0 0 (split_at_zeros list.now) }
 {
     let mut place = 0;
+    // A cursor, which each string moves on; the place is told whether a string is found or not.
     let mut from = 0;
     while let Some(to) = strings::text_end(list, from, list.len()) {
         if &list[from..to] == text || place == sought {

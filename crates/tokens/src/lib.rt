@@ -21,7 +21,8 @@ pub struct Cursor {
     pub at: usize,
 }
 
-// A token, with the cursor of what follows it: a begin token's name, or the next token.
+// A token, with the cursor of what follows it: a begin token's name, or the next token. A fault is a kind of its own, since callers pass it over
+// or refuse it as they do other kinds.
 #[derive(Clone, Copy, Debug, PartialEq, Eq)]
 pub enum Step {
     BeginNode {

@@ -46,6 +46,7 @@ pub fn digit_count(number: u64) -> usize
 {
     let mut count = 1;
     let mut rest = number / 16;
+    // By what is left of the number: there is no index.
     while 0 < rest {
         count += 1;
         rest /= 16;
@@ -53,7 +54,7 @@ pub fn digit_count(number: u64) -> usize
     count
 }
 
-// Puts the shortest lower-case text of a number into a lent buffer, from place `at` on; the answer is its length. Refusal: 18.
+// Puts the shortest lower-case text of a number into a lent buffer, from place `at` on, which may be any; the answer is its length. Refusal: 18.
 pub fn write_hex(number: u64, buffer: &mut [u8], at: usize) -> Result<usize, Refusal>
     ensures result_value { length_outcome result ≡ write_hex number at (length buffer.old) }
     ensures buffer_after { buffer.new ≡ after_hex number at buffer.old }

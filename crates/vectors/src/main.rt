@@ -61,7 +61,8 @@ fn answer(out: &mut impl Write, kind: u8, value: &mut [u8]) -> io::Result<bool> 
     }
 }
 
-// Reads until the buffer is full or the input ends, and answers how many bytes it put at the buffer's front.
+// Reads until the buffer is full or the input ends, and answers how many bytes it put at the buffer's front. The lister has the same: a crate
+// of its own for ten lines would be no plainer.
 fn read_full(input: &mut impl Read, buffer: &mut [u8]) -> io::Result<usize> {
     let mut done = 0;
     while done < buffer.len() {

@@ -97,7 +97,9 @@ impl Tree<'_> {
     fn child_item(&self, t: usize, from: usize) -> Result<Item, RefusedAt>
         ensures { part_of result ≡ child_part self.now.bytes.now self.now.blocks t from }
     {
-        let length = names::node_name(self.bytes, from, self.blocks.end).ok_or(Refusal::Name.at(t))?;
+        let length = names::node_name(self.bytes, from, self.blocks.end).ok_or(Refusal::Name.at(
+            t,
+        ))?;
         Ok(Item::Child(ChildNode {
             at: t,
             name: from,
@@ -130,7 +132,10 @@ impl Tree<'_> {
         ensures { result ≡ note seen at (take length (drop from self.now.bytes.now)) }
     {
         // `==` is no plainer here: `same_bytes` is it, promised in the words of `note`
-        if !strings::same_bytes(&self.bytes[from..from + length], b"ibm,powerpc-cpu-features") {
+        if !strings::same_bytes(
+            &self.bytes[from..from + length],
+            b"ibm,powerpc-cpu-features",
+        ) {
             return seen;
         }
         match seen.count {
@@ -152,19 +157,18 @@ impl Tree<'_> {
     // and then a call for each child, the levels left falling by one.
     fn contents(&self, from: usize, levels: usize, seen: Containers) -> Result<NodeRead, RefusedAt>
         requires { levels < most_levels }
-        ensures {
-          Reads
+        ensures { Reads
             self.now.bytes.now
             self.now.blocks
             (in_properties (most_levels - levels) [])
             from
             seen
             (parent_of (most_levels - levels))
-            result
-        }
+            result }
     {
         let mut at = self.properties_at(from)?;
         let mut found = seen;
+        // By a cursor, which each token moves on: no index is counted.
         loop {
             match self.item_at(at)? {
                 Item::Skip(next) => at = next.at,
@@ -187,6 +191,7 @@ impl Tree<'_> {
         ensures { Reads self.now.bytes.now self.now.blocks before_root start none (in_properties 1 []) result }
     {
         let mut cursor = Cursor { at: start };
+        // By a cursor, as above.
         loop {
             match cursor.step(self.bytes, self.blocks.end) {
                 Step::Nop { next, .. } => cursor = next,
@@ -212,6 +217,7 @@ impl Tree<'_> {
         ensures { Ends self.now.bytes.now self.now.blocks from result }
     {
         let mut cursor = Cursor { at: from };
+        // By a cursor, as above.
         loop {
             match cursor.step(self.bytes, self.blocks.end) {
                 Step::Nop { next, .. } => cursor = next,
@@ -242,11 +248,9 @@ impl Tree<'_> {
 
     // The walk over a tree whose blocks lie in it.
     fn walk_tree(&self) -> Result<Layout, RefusedAt>
-        ensures {
-          checked_outcome result
+        ensures { checked_outcome result
             ≡ judge self.now.bytes.now self.now.blocks
-                (walk self.now.blocks.end before_root (tree_tokens self.now.bytes.now self.now.blocks self.now.blocks.start))
-        }
+            (walk self.now.blocks.end before_root (tree_tokens self.now.bytes.now self.now.blocks self.now.blocks.start)) }
     {
         let root = self.root_at(self.blocks.start)?;
         let inner = self.contents(root.next.at, MOST_LEVELS - 1, root.found)?;
