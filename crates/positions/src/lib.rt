@@ -59,8 +59,7 @@ pub fn member(s: Set, i: usize) -> bool
     w < WORDS && (s.words[w] >> (i % 64)) % 2 != 0
 }
 
-// A set with a position; the same set where the position is past the last word. A closure for the one operator in which `remove` differs would
-// not be plainer.
+// A set with a position; the same set where the position is past the last word.
 pub fn insert(mut s: Set, i: usize) -> Set
     ensures { result.words ≡ with_member s.words i }
 {

@@ -77,7 +77,7 @@ impl From<Refusal> for u32 {
     }
 }
 
-// The number of the refusal that an outcome is, as C has it; 0 where it is an answer.
+// The number of the refusal that an outcome is; 0 where it is an answer.
 pub fn number<T>(outcome: &Result<T, Refusal>) -> u32
     ensures { result ≡ number_in outcome.now }
 {

@@ -20,7 +20,7 @@ pub fn text_end(s: &[u8], from: usize, end: usize) -> Option<usize>
     Some(from + length)
 }
 
-// Whether two runs are the same bytes: `==`, under a name that a definition of specs/ has and contracts of other crates cite.
+// Whether two runs are the same bytes.
 pub fn same_bytes(a: &[u8], b: &[u8]) -> bool
     ensures { result ≡ same_bytes a.now b.now }
 {
