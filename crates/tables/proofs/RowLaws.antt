@@ -4,13 +4,15 @@ use mathlib.Core.Path.{◌≡◌, refl, sym, ap, subst, ◌∙◌}
 use mathlib.Core.List.{List, [], ◌∷◌, ◌++◌, append_assoc}
 use native.Mathlib.Decide.{dec_lt}
 use native.Mathlib.Nat.{add-zero}
+use native.Mathlib.Numerals.{add-one}
 use native.Mathlib.Omega.{arith}
+use borrow.Author.Count.{below_more}
 use borrow.Author.Tests.{lt-ltb, le-ltb}
 use lib.ListN.{length, get_or, set, take, drop, length-set, length-take, length-drop}
 use borrow.Rule.Slice.PartMut.{put_mid}
 use Rattle.std.specs.List.{slice_range}
 use Rattle.std.proofs.lemmas.List.{get_or-take, get_or-drop}
-use lib.Seq.{drop-drop, sets, sets-eq, length-sets, get_or-set_same, get_or-set_other, ext_get_or}
+use lib.Seq.{drop-drop, sets, sets-eq, length-sets, get_or-set_same, get_or-set_other, ext_get_or, length-take-le, take-suc, take_all}
 use Rattle.cells.specs.Buffer.{Stays, written}
 use Rattle.cells.proofs.Rows.{length-each, row-at}
 use Rattle.cells.proofs.Writing.{written-writes, nothing-stays}
@@ -38,6 +40,30 @@ row-part table i h =
     row_is table (slice_range table (set_words * i) (set_words * i + set_words)) i (simp (length-take, length-drop) (omega arith))
     (λ v l. get_or-take (set_words * i + set_words - set_words * i) _ v 0 (omega arith) ∙ get_or-drop (set_words * i) table v 0)
 
+-- the first w words of a row are read
+pub record ReadTo (table : List ℕ) (i : ℕ) (t : List ℕ) (w : ℕ) : Type 0 where
+  pub within : w ≤ set_words
+  pub size : length t ≡ set_words
+  pub each : (v : ℕ) → v < w → get_or t v 0 ≡ get_or table (set_words * i + v) 0
+
+pub read_none : (table : List ℕ) (i : ℕ) (t : List ℕ) → length t ≡ set_words → ReadTo table i t 0
+read_none table i t e = record { within = omega arith; size = e; each = λ v h. absurd (omega arith) }
+
+pub read_more : (table : List ℕ) (i : ℕ) (t : List ℕ) (w : ℕ) → ReadTo table i t w → w < set_words
+    → ReadTo table i (set t w (get_or table (set_words * i + w) 0)) (w + 1)
+read_more table i t w r h =
+    let x = get_or table (set_words * i + w) 0 in
+    record {
+      within = omega arith;
+      size = length-set t w x ∙ r.size;
+      each =
+          below_more (λ v. get_or (set t w x) v 0 ≡ get_or table (set_words * i + v) 0) w (λ v q. get_or-set_other t w v x 0 (omega arith) ∙ r.each v q)
+          (get_or-set_same t w x 0 (omega (arith, r.size)));
+    }
+
+pub read_all : (table : List ℕ) (i : ℕ) (t : List ℕ) (w : ℕ) → ReadTo table i t w → set_words ≤ w → t ≡ row_at table i
+read_all table i t w r h = row_is table t i r.size (λ v l. r.each v (omega arith))
+
 -- a row past the last has no members
 pub row-past : (table : List ℕ) (i : ℕ) → most_features ≤ i → set_of no_members ≡ row_or_none table i
 unfolding row_or_none
@@ -62,6 +88,36 @@ sets-in l (a ∷ vs) i zero h f = rw (add-zero i) (sets-before (set l i a) vs (s
 sets-in l (a ∷ vs) i (suc v) h f =
     let e : i + suc v ≡ suc i + v = omega arith in
     rw e (sets-in (set l i a) vs (suc i) v (omega arith) (omega (arith, length-set l i a)))
+
+sets_more : (l vs : List ℕ) (i a : ℕ) → set (sets l i vs) (i + length vs) a ≡ sets l i (vs ++ a ∷ [])
+sets_more l [] i a = rw (add-zero i)
+sets_more l (b ∷ vs) i a = let e : i + suc (length vs) ≡ suc i + length vs = omega arith in rw e (sets_more (set l i b) vs (suc i) a)
+
+-- the first w words of a row are replaced
+pub record PutTo (old : List ℕ) (i : ℕ) (words new : List ℕ) (w : ℕ) : Type 0 where
+  pub within : w ≤ set_words
+  pub same : new ≡ sets old (set_words * i) (take w words)
+
+pub put-none : (old : List ℕ) (i : ℕ) (words : List ℕ) → PutTo old i words old 0
+put-none old i words = record { within = omega arith; same = refl }
+
+pub put-more : (old : List ℕ) (i : ℕ) (words new : List ℕ) (w : ℕ) → length words ≡ set_words → PutTo old i words new w → w < set_words
+    → PutTo old i words (set new (set_words * i + w) (get_or words w 0)) (w + 1)
+put-more old i words new w e r h =
+    let n : length (take w words) ≡ w = length-take-le w words (omega arith) in
+    record {
+      within = omega arith;
+      same =
+          ap (λ (l : List ℕ). set l (set_words * i + w) (get_or words w 0)) r.same
+          ∙ ap (λ (k : ℕ). set (sets old (set_words * i) (take w words)) (set_words * i + k) (get_or words w 0)) (sym n)
+          ∙ sets_more old (take w words) (set_words * i) (get_or words w 0)
+          ∙ ap (sets old (set_words * i)) (sym (take-suc words w 0 (omega arith)) ∙ ap (λ (k : ℕ). take k words) (sym (add-one w)));
+    }
+
+pub put_all : (old : List ℕ) (i : ℕ) (words new : List ℕ) (w : ℕ) → length words ≡ set_words → PutTo old i words new w → set_words ≤ w
+    → new ≡ with_row old i words
+unfolding with_row
+put_all old i words new w e r h = r.same ∙ ap (sets old (set_words * i)) (take_all w words (omega arith))
 
 -- the row is replaced where the table has it
 pub row-put-low : (table : List ℕ) (i : ℕ) (words : List ℕ) → i < most_features → row_put table i words ≡ with_row table i words
