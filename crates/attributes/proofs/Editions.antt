@@ -1,7 +1,7 @@
 -- Laws of the bytes that an edition of `ibm,pa-features` knows. Assumes nothing.
-use mathlib.Core.Path.{◌≡◌, sym, ◌∙◌}
+use mathlib.Core.Path.{◌≡◌, refl, sym, ap, ◌∙◌}
 use mathlib.Core.Bool.{Bool, true, false, cond}
-use mathlib.Core.List.{List}
+use mathlib.Core.List.{List, []}
 use Prim.Native.Nat.{ℕ, ◌-◌, ◌<◌, ◌≤◌, min}
 use native.Mathlib.Omega.{arith}
 use native.Mathlib.Decide.{ℕ_discrete, dec_lt}
@@ -10,8 +10,9 @@ use lib.Dec.{eqb}
 use lib.ListN.{length, take, drop, replicate, length-drop, drop_of_length-le}
 use lib.Seq.{take_all, take-length}
 use Rattle.cells.specs.Buffer.{written}
+use Rattle.cells.specs.Cells.{word_at, cell_at}
 use Rattle.cells.proofs.Copying.{written-padded}
-use Rattle.attributes.specs.Attributes.{most_bytes, first_later, later_bytes, edition_first, known_bytes}
+use Rattle.attributes.specs.Attributes.{most_bytes, first_later, later_bytes, edition_first, known_bytes, pa_table, no_attributes}
 use Rattle.attributes.specs.Parts.{known_count}
 
 -- the later bytes, copied into zeros; and none
@@ -24,6 +25,11 @@ later-copied bytes =
 pub later-none : (bytes : List ℕ) → length bytes ≤ first_later → replicate (most_bytes - first_later) 0 ≡ later_bytes bytes
 unfolding later_bytes
 later-none bytes h = rw (drop_of_length-le bytes h)
+
+-- no bytes say nothing
+pub nothing_said : pa_table [] ≡ no_attributes
+unfolding pa_table no_attributes later_bytes word_at cell_at
+nothing_said = refl
 
 -- bytes in front, and as many of them as there are
 in-front : (n : ℕ) (bytes : List ℕ) → take (min (length bytes) n) bytes ≡ take n bytes
@@ -62,3 +68,11 @@ module _ (edition : ℕ) (bytes : List ℕ) where
       go : (b : Bool) → cond b (min (length bytes) first_later) (length bytes) ≤ length bytes
       go true = omega arith
       go false = omega arith
+
+-- of no bytes, no edition knows any
+pub nothing_known : (edition : ℕ) → pa_table (known_bytes edition []) ≡ no_attributes
+nothing_known edition = go (ℕ_discrete edition edition_first)
+  where
+    go : Dec (edition ≡ edition_first) → pa_table (known_bytes edition []) ≡ no_attributes
+    go (yes e) = ap pa_table (known-first [] e) ∙ nothing_said
+    go (no e) = ap pa_table (known-later [] e) ∙ nothing_said

@@ -3,7 +3,7 @@ use mathlib.Core.Path.{◌≡◌, refl, sym, ap, subst, ◌∙◌}
 use mathlib.Core.List.{List, [], ◌++◌}
 use Prim.Native.Nat.{ℕ, ◌+◌, ◌<◌, ◌≤◌}
 use native.Mathlib.Omega.{arith}
-use lib.ListN.{length, take, drop, get_or, length-append, length-drop}
+use lib.ListN.{length, take, drop, get_or, length-append, length-take, length-drop}
 use lib.Seq.{take-add, take-take, take-append_seam, drop-append_seam, drop-drop, get_or-take, get_or-drop, length-take-le}
 use Rattle.cells.specs.Buffer.{written}
 use Rattle.cells.specs.Bytes.{IsByte, Each, Stands}
@@ -17,6 +17,10 @@ module _ (s : List ℕ) (at : ℕ) where
   pub stands-take : (a : List ℕ) → Stands s at a → take (length a) (drop at s) ≡ a
   unfolding Stands
   stands-take a w = w
+
+  pub stands-fits : (a : List ℕ) → Stands s at a → 0 < length a → at + length a ≤ length s
+  unfolding Stands
+  stands-fits a w h = omega (arith, ap length w, length-take (length a) (drop at s), length-drop at s)
 
   -- the first part, the part after it, and both
   pub stands-first : (a b : List ℕ) → Stands s at (a ++ b) → Stands s at a
