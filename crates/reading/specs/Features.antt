@@ -90,7 +90,7 @@ abbrev pub count_of : Value → Option ℕ
 count_of missing = None
 count_of (value bs) = Some (length (cells_of (value bs)))
 
--- its cells: "None and zero differ"
+-- its cells: "Absent and zero differ"
 unfoldable pub cell_in : Node → Property → Option ℕ
 cell_in n Isa = cell_of (value_of n "isa")
 cell_in n UsablePrivilege = cell_of (value_of n "usable-privilege")
