@@ -34,8 +34,10 @@ pub fn has_name(s: &[u8], from: usize, end: usize, name: &[u8]) -> bool
     let Some(block) = s.get(from..end.min(s.len())) else {
         return false;
     };
-    if block.len() <= name.len() || block[name.len()] != 0 || &block[..name.len()] != name {
-        return false;
+    for (b, c) in block.iter().zip(name) {
+        if b != c || *b == 0 {
+            return false;
+        }
     }
-    !name.contains(&0)
+    block.get(name.len()) == Some(&0)
 }

@@ -2,10 +2,13 @@
 use mathlib.Core.Path.{◌≡◌, refl, sym, ap, ◌∙◌}
 use mathlib.Core.Bool.{Bool, true, false}
 use mathlib.Core.List.{List, [], ◌∷◌, ◌++◌, append_assoc}
-use Prim.Native.Nat.{ℕ, ◌+◌, ◌<◌, ◌≤◌, min}
+use Prim.Native.Nat.{ℕ, suc, ◌+◌, ◌<◌, ◌≤◌, min}
+use native.Mathlib.Omega.{arith}
+use native.Mathlib.Numerals.{add-one}
 use borrow.Author.Tests.{eq-eqb, ne_eqb, eqb-true, eqb-false}
 use lib.Dec.{eqb}
-use lib.ListN.{get_or, length}
+use lib.ListN.{get_or, length, drop, drop_of_length-le, length-drop}
+use lib.Seq.{drop-cons}
 use Rattle.strings.specs.Strings.{Text, ended, unended, onto, text_at, same_bytes}
 use Rattle.strings.proofs.Strings.{text-none, text-empty, text-more, same_true, same_refl}
 use Rattle.names.specs.Names.{same_text}
@@ -86,3 +89,47 @@ module _ (s : List ℕ) (end i j : ℕ) where
         go false false p q =
             rw (text-more s end i hi (eqb-false (get_or s i 0) 0 p), text-more s end j hj (eqb-false (get_or s j 0) 0 q))
             (apart-onto (get_or s i 0) (get_or s j 0) h (text_at s (i + 1) end) (text_at s (j + 1) end))
+
+-- a string in a block has the characters of a name from j on
+unfoldable pub has_from : List ℕ → ℕ → ℕ → List ℕ → ℕ → Bool
+has_from s end i name j = same_text (text_at s i end) (ended (drop j name))
+
+pub has-whole : (s : List ℕ) (end i : ℕ) (name : List ℕ) → has_from s end i name 0 ≡ same_text (text_at s i end) (ended name)
+unfolding has_from
+has-whole s end i name = refl
+
+module _ (s : List ℕ) (end i : ℕ) (name : List ℕ) (j : ℕ) where
+  pub named_none : min (length s) end ≤ i → has_from s end i name j ≡ false
+  unfolding has_from same_text
+  named_none h = rw (text-none s end i h)
+
+  module _ (h : i < min (length s) end) where
+    pub named-ended : get_or s i 0 ≡ 0 → j ≤ length name → has_from s end i name j ≡ eqb j (length name)
+    unfolding has_from
+    named-ended z l = rw (text-empty s end i h z) (go (drop j name) refl)
+      where
+        go : (ds : List ℕ) → drop j name ≡ ds → same_text (ended []) (ended ds) ≡ eqb j (length name)
+        go [] e =
+            let n : j ≡ length name = omega (arith, length-drop j name, ap length e) in
+            same-text-equal [] [] refl ∙ sym (eq-eqb j (length name) n)
+        go (d ∷ ds) e =
+            let n : j ≡ length name → ⊥ = λ q. absurd (omega (arith, length-drop j name, ap length e, q)) in
+            empty-onto d (ended ds) ∙ sym (ne_eqb j (length name) n)
+
+    module _ (z : get_or s i 0 ≡ 0 → ⊥) where
+      pub named-longer : length name ≤ j → has_from s end i name j ≡ false
+      unfolding has_from
+      named-longer l = rw (text-more s end i h z, drop_of_length-le name l) (onto-empty (get_or s i 0) (text_at s (i + 1) end))
+
+      pub named-apart : j < length name → (get_or s i 0 ≡ get_or name j 0 → ⊥) → has_from s end i name j ≡ false
+      unfolding has_from
+      named-apart l d =
+          rw (text-more s end i h z, drop-cons name j 0 l)
+          (apart-onto (get_or s i 0) (get_or name j 0) d (text_at s (i + 1) end) (ended (drop (suc j) name)))
+
+      pub named-goes-on : j < length name → get_or s i 0 ≡ get_or name j 0
+          → has_from s end i name j ≡ has_from s end (i + 1) name (j + 1)
+      unfolding has_from
+      named-goes-on l e =
+          rw (text-more s end i h z, drop-cons name j 0 l, e, add-one j)
+          (same-onto (get_or name j 0) (text_at s (i + 1) end) (ended (drop (suc j) name)))

@@ -216,13 +216,14 @@ impl Tree<'_> {
     fn last_at(&self, from: usize) -> Result<(), RefusedAt>
         ensures { Ends self.now.bytes.now self.now.blocks from result }
     {
+        let end = self.blocks.end;
         let mut cursor = Cursor { at: from };
         // By a cursor, as above.
         loop {
-            match cursor.step(self.bytes, self.blocks.end) {
+            match cursor.step(self.bytes, end) {
                 Step::Nop { next, .. } => cursor = next,
                 Step::End { at } => {
-                    if at + 4 == self.blocks.end {
+                    if at + 4 == end {
                         return Ok(());
                     }
                     return Err(Refusal::Token.at(at));

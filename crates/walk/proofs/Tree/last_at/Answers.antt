@@ -18,11 +18,11 @@ loop-next-preserved c = outside-nop c.loop-next.invariant (sym c.step.ensures.va
 pub overflow_add-at : goal.overflow_add-at
 overflow_add-at c = omega (arith, end-room _ _ _ (sym c.step.ensures.value ∙ c.in-End.is))
 
-pub returns-then-at-self : goal.returns-then-at-self
-returns-then-at-self c = last-accepted c.loop-next.invariant (sym c.step.ensures.value ∙ c.in-End.is) c.if-at-self.true
-
 pub returns-in-End : goal.returns-in-End
-returns-in-End c = rw c.at.ensures (last-early c.loop-next.invariant (sym c.step.ensures.value ∙ c.in-End.is) c.if-at-self.false)
+returns-in-End c = rw c.at.ensures (last-early c.loop-next.invariant (sym c.step.ensures.value ∙ c.in-End.is) c.if-at-end.false)
+
+pub returns-then-at-end : goal.returns-then-at-end
+returns-then-at-end c = last-accepted c.loop-next.invariant (sym c.step.ensures.value ∙ c.in-End.is) c.if-at-end.true
 
 pub returns-in-BeginNode : goal.returns-in-BeginNode
 returns-in-BeginNode c =
