@@ -28,6 +28,11 @@ abbrev pub IsNumbered : {A : Type 0} → (A → Type 0) → Result A Refusal →
 IsNumbered zeros (Ok a) number value = (number ≡ 0) × (value ≡ a)
 IsNumbered zeros (Err e) number value = (number ≡ number_of e) × zeros value
 
+-- an outcome's value: the answer, or zeros
+abbrev pub value_in : {A : Type 0} → A → Result A Refusal → A
+value_in zeros (Ok a) = a
+value_in zeros (Err e) = zeros
+
 abbrev pub sizes_outcome_c : YebkuzanSizes → Outcome SizeTable
 sizes_outcome_c t = record { number = t.number; value = t.table }
 

@@ -12,8 +12,8 @@ ghost use Rattle.enabled.specs.Answers.{enabled_outcome};
 ghost use Rattle.reach.specs.Answers.{reach_outcome};
 ghost use Rattle.chain.specs.Chain.{chain_outcome};
 ghost use Rattle.words.specs.Words.{words_outcome};
-ghost use Rattle.refusal.specs.Refusal.{number_of};
-ghost use Rattle.answers.specs.Answers.{IsNumbered, sizes_outcome_c, segments_outcome_c, radix_outcome_c, pa_outcome_c, pi_outcome_c, bus_outcome_c, unit_outcome_c, string_place_outcome_c, place_outcome, permitted_outcome_c, enabled_outcome_c, reach_outcome_c, written_outcome_c, words_outcome_c};
+ghost use Rattle.refusal.specs.Refusal.{number_in};
+ghost use Rattle.answers.specs.Answers.{IsNumbered, value_in, sizes_outcome_c, segments_outcome_c, radix_outcome_c, pa_outcome_c, pi_outcome_c, bus_outcome_c, unit_outcome_c, string_place_outcome_c, place_outcome, permitted_outcome_c, enabled_outcome_c, reach_outcome_c, written_outcome_c, words_outcome_c};
 
 use attributes::{PaTable, PiTable};
 use enabled::Enabled;
@@ -133,13 +133,17 @@ pub struct YebkuzanWords {
     pub fscr: u64,
 }
 
-// The number of an outcome, 0 for an answer, and the answer, or zeros beside a refusal.
+// The number of an outcome, 0 for an answer, and the answer, or zeros beside a refusal: the type's default, which makes the value known
+// where it can be one value alone.
 pub fn numbered<T: Default>(outcome: Result<T, Refusal>) -> (u32, T)
-    ensures { IsNumbered T.is_default outcome result.0 result.1 }
+    ensures is_numbered { IsNumbered T.is_default outcome result.0 result.1 }
+    ensures number { result.0 ≡ number_in outcome }
+    ensures value { (zeros : T) → ((a : T) → T.is_default a → a ≡ zeros) → result.1 ≡ value_in zeros outcome }
 {
+    let number = refusal::number(&outcome);
     match outcome {
-        Ok(value) => (0, value),
-        Err(refusal) => (u32::from(refusal), T::default()),
+        Ok(value) => (number, value),
+        Err(_) => (number, T::default()),
     }
 }
 

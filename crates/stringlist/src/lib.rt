@@ -26,10 +26,11 @@ fn scan(list: &[u8], text: &[u8], sought: usize) -> Result<StringAt, usize>
     ensures { result ≡ stop_in text.now sought 0 0 (split_at_zeros list.now) }
 {
     let mut place = 0;
+    // Strings are compared by `same_bytes` here and below: docs/PROMISES.md cites its promise for them.
     // A cursor, which each string moves on; the place is told whether a string is found or not.
     let mut from = 0;
     while let Some(to) = strings::text_end(list, from, list.len()) {
-        if &list[from..to] == text || place == sought {
+        if strings::same_bytes(&list[from..to], text) || place == sought {
             return Ok(StringAt { place, from, to });
         }
         from = to + 1;
@@ -57,7 +58,8 @@ pub fn is_only_string(list: &[u8], text: &[u8]) -> bool
 {
     // The scan stops at the first string, whichever it is.
     match scan(list, text, 0) {
-        Ok(first) => first.to + 1 == list.len() && &list[first.from..first.to] == text,
+        Ok(first) => first.to + 1 == list.len()
+            && strings::same_bytes(&list[first.from..first.to], text),
         Err(_) => false,
     }
 }
