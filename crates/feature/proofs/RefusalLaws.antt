@@ -11,7 +11,7 @@ use Rattle.record.specs.declared.Feature.{Feature}
 use Rattle.record.specs.declared.Property.{Property}
 use Rattle.record.specs.declared.Property.TheVariants.{Isa, UsablePrivilege, HvSupport, OsSupport, HfscrBitNr, FscrBitNr, HwcapBitNr, Phandle, Dependencies}
 use Rattle.feature.specs.declared.FeatureCells.{FeatureCells}
-use Rattle.feature.specs.Feature.{read_of, first_of, first_among, cell_numbers, refusal_of, feature_from, feature_or, feature_read, feature_outcome}
+use Rattle.feature.specs.Feature.{read_of, refused_number, first_of, first_among, cell_numbers, refusal_of, feature_from, feature_or, feature_read, feature_outcome}
 
 pub first-left : (m n : ℕ) → (m ≡ 0 → ⊥) → m ≡ first_of m n
 first-left zero n z = absurd (z refl)
@@ -31,7 +31,7 @@ among-zero [] z i = refl
 among-zero (n ∷ ns) z zero = (first-zero n (first_among ns) z).0
 among-zero (n ∷ ns) z (suc i) = among-zero ns (first-zero n (first_among ns) z).1 i
 
-pub none-refused : (c : FeatureCells) → refusal_of c ≡ 0 → (p : Property) → number_in (read_of c p) ≡ 0
+pub none-refused : (c : FeatureCells) → refusal_of c ≡ 0 → (p : Property) → refused_number (read_of c p).refusal ≡ 0
 none-refused c z Isa = among-zero (cell_numbers c) z 0
 none-refused c z UsablePrivilege = among-zero (cell_numbers c) z 1
 none-refused c z HvSupport = among-zero (cell_numbers c) z 2

@@ -1,17 +1,19 @@
 -- A feature by the cells of its properties: the first refusal among them, in document 01's order, and the feature where there is none.
-use Rattle.std.specs.Prelude.{ℕ, zero, suc, List, [], ◌∷◌, map, Option, None, Result, Ok, Err}
+use Rattle.std.specs.Prelude.{ℕ, zero, suc, List, [], ◌∷◌, map, Option, None, Some, Result, Ok, Err}
 use Rattle.refusal.specs.declared.Refusal.{Refusal}
-use Rattle.refusal.specs.Refusal.{Outcome, answer, refuse, number_in, outcome_of}
+use Rattle.refusal.specs.Refusal.{Outcome, answer, refuse, number_of, outcome_of}
 use Rattle.record.specs.declared.Feature.{Feature}
 use Rattle.record.specs.declared.Property.{Property}
 use Rattle.record.specs.declared.Property.TheVariants.{Isa, UsablePrivilege, HvSupport, OsSupport, HfscrBitNr, FscrBitNr, HwcapBitNr, Phandle, Dependencies}
 use Rattle.record.specs.Record.{no_feature}
 use Rattle.record.specs.Cells.{all_properties, feature_with}
+use Rattle.feature.specs.declared.CellRead.{CellRead}
 use Rattle.feature.specs.declared.FeatureCells.{FeatureCells}
 
--- a property of one cell: refused, not given, or its number
-abbrev pub CellRead : Type 0
-CellRead = Result (Option ℕ) Refusal
+-- the property that an answer gives: a refused one has no cell
+abbrev pub read_as : Result (Option ℕ) Refusal → CellRead
+read_as (Ok cell) = record { refusal = None; cell = cell }
+read_as (Err refusal) = record { refusal = Some refusal; cell = None }
 
 -- what was read of a property
 abbrev pub read_of : FeatureCells → Property → CellRead
@@ -25,10 +27,9 @@ read_of c HwcapBitNr = c.bits.hwcap_bit_nr
 read_of c Phandle = c.phandle
 read_of c Dependencies = c.dependencies
 
--- its cell: "Absent and zero differ"; a refused property has none
+-- its cell: "Absent and zero differ"
 abbrev pub cell_from : CellRead → Option ℕ
-cell_from (Ok cell) = cell
-cell_from (Err refusal) = None
+cell_from c = c.cell
 
 abbrev pub cells_from : FeatureCells → Property → Option ℕ
 cells_from c p = cell_from (read_of c p)
@@ -42,9 +43,14 @@ abbrev pub first_among : List ℕ → ℕ
 first_among [] = 0
 first_among (n ∷ ns) = first_of n (first_among ns)
 
--- the numbers of the properties' refusals, "in this property order"; 0 where there is none
+-- the number of a property's refusal, 0 where there is none
+abbrev pub refused_number : Option Refusal → ℕ
+refused_number None = 0
+refused_number (Some refusal) = number_of refusal
+
+-- the numbers of the properties' refusals, "in this property order"
 abbrev pub cell_numbers : FeatureCells → List ℕ
-cell_numbers c = map (λ (p : Property). number_in (read_of c p)) all_properties
+cell_numbers c = map (λ (p : Property). refused_number (read_of c p).refusal) all_properties
 
 -- the number of the first refusal
 abbrev pub refusal_of : FeatureCells → ℕ

@@ -7,14 +7,18 @@ ghost use Rattle.positions.specs.Below.{one_if, first_that};
 ghost use Rattle.record.specs.Record.{most_features, no_feature};
 ghost use Rattle.refusal.specs.Refusal.{number_in as refusal_number};
 ghost use Rattle.record.specs.Cells.{given_in, number_in, given_word};
-ghost use Rattle.feature.specs.Feature.{cell_from, cells_from, refusal_of, feature_from, feature_outcome, feature_read};
+ghost use Rattle.feature.specs.Feature.{read_as, refused_number, cell_from, cells_from, refusal_of, feature_from, feature_outcome, feature_read};
 ghost use Rattle.feature.specs.Phandles.{is_at};
 
 use record::{Feature, MOST_FEATURES};
 use refusal::Refusal;
 
-// A property of one cell: refused, not given, or its number.
-pub type CellRead = Result<Option<u32>, Refusal>;
+// A property of one cell as read: its refusal, if it is refused, and its number, if it is given.
+#[derive(Clone, Copy)]
+pub struct CellRead {
+    pub refusal: Option<Refusal>,
+    pub cell: Option<u32>,
+}
 
 // The cells of who may use a feature, and of its supports.
 #[derive(Clone, Copy)]
@@ -42,25 +46,46 @@ pub struct FeatureCells {
     pub dependencies: CellRead,
 }
 
-// The cell of a property; none where it is refused.
-fn cell_from(c: CellRead) -> Option<u32>
-    ensures { result ≡ cell_from c }
+// A refused answer has no cell.
+impl From<Result<Option<u32>, Refusal>> for CellRead {
+    ghost from_gives = { λ answer read. read ≡ read_as answer };
+
+    fn from(answer: Result<Option<u32>, Refusal>) -> CellRead {
+        match answer {
+            Ok(cell) => CellRead {
+                refusal: None,
+                cell,
+            },
+            Err(refusal) => CellRead {
+                refusal: Some(refusal),
+                cell: None,
+            },
+        }
+    }
+}
+
+// The refusal of a property, if it is refused.
+fn unrefused(c: CellRead) -> Result<(), Refusal>
+    ensures { refusal_number result ≡ refused_number c.refusal }
 {
-    c.unwrap_or(None)
+    match c.refusal {
+        Some(refusal) => Err(refusal),
+        None => Ok(()),
+    }
 }
 
 // A bit of the word `given`: set where the cell is given.
 fn given_bit(c: CellRead, bit: u32) -> u32
     ensures { (result ≡ one_if (given_in (cell_from c)) * bit) × (result ≤ bit) }
 {
-    if cell_from(c).is_some() { bit } else { 0 }
+    if c.cell.is_some() { bit } else { 0 }
 }
 
 // The number of a cell, zero where it is not given.
 fn number(c: CellRead) -> u32
     ensures { result ≡ number_in (cell_from c) }
 {
-    cell_from(c).unwrap_or(0)
+    c.cell.unwrap_or(0)
 }
 
 // The word `given`, a bit for each property in their order, the first the lowest.
@@ -82,15 +107,15 @@ fn given_word(c: FeatureCells) -> u32
 pub fn refusal_of(c: FeatureCells) -> Result<(), Refusal>
     ensures { refusal_number result ≡ refusal_of c }
 {
-    c.isa?;
-    c.support.usable_privilege?;
-    c.support.hv_support?;
-    c.support.os_support?;
-    c.bits.hfscr_bit_nr?;
-    c.bits.fscr_bit_nr?;
-    c.bits.hwcap_bit_nr?;
-    c.phandle?;
-    c.dependencies?;
+    unrefused(c.isa)?;
+    unrefused(c.support.usable_privilege)?;
+    unrefused(c.support.hv_support)?;
+    unrefused(c.support.os_support)?;
+    unrefused(c.bits.hfscr_bit_nr)?;
+    unrefused(c.bits.fscr_bit_nr)?;
+    unrefused(c.bits.hwcap_bit_nr)?;
+    unrefused(c.phandle)?;
+    unrefused(c.dependencies)?;
     Ok(())
 }
 

@@ -17,14 +17,13 @@ use Rattle.refusal.proofs.Numbers.{numbered}
 use Rattle.refusal.specs.Checks.{Check, check}
 use Rattle.tokens.specs.Steps.{pick}
 use Rattle.tokens.specs.Tokens.{Token}
-use Rattle.feature.specs.Feature.{CellRead}
 use Rattle.nodes.specs.Nodes.{Node}
 use Rattle.nodes.specs.Values.{Value, missing, value, value_in, value_of, bytes_of, is_cell}
 use Rattle.reading.specs.Features.{required_checks}
 use Rattle.reading.specs.Reading.{container_properties}
 use Rattle.reading.specs.Ends.{FirstFailing}
 use Rattle.nodes.specs.Parts.{Lies}
-use Rattle.reader.specs.Parts.{cell_fault, CellIs, Judged, is_container, ContainerIs}
+use Rattle.reader.specs.Parts.{CellResult, cell_fault, CellIs, Judged, is_container, ContainerIs}
 use Rattle.reading.proofs.CheckLaws.{fail-left, fail-right, fail-here}
 use Rattle.reader.proofs.JudgedLaws.{judged-check}
 use Rattle.reader.proofs.RangeLaws.{number-cell}
@@ -70,7 +69,7 @@ module _ (ts : List Token) where
   abbrev Same : Node → Type 0
   Same c = (name : List ℕ) → value_in name c.behind ≡ value_in name ts
 
-  abbrev Reads : CellRead → Type 0
+  abbrev Reads : CellResult → Type 0
   Reads r = (c : Node) → Same c → ContainerIs c r
 
   both : (c : Node) → Same c → is_container ts ≡ (typed c && compatible c)
@@ -85,7 +84,7 @@ module _ (ts : List Token) where
       go true e g k z =
           fail-right (check_of c (typed c)) _ (e, tt) (fail-left (check_of c (compatible c)) _ (fail-here 11 c.at (k ∙ z)))
 
-  pub container-read : is_container ts ≡ true → {r : CellRead} → CellIs true (value_in (bytes "isa") ts) r → Reads r
+  pub container-read : is_container ts ≡ true → {r : CellResult} → CellIs true (value_in (bytes "isa") ts) r → Reads r
   container-read y {r} h c same =
       let m = subst (λ (v : Value). CellIs true v r) (sym (same (bytes "isa"))) h in
       let t = go (typed c) (compatible c) (sym (both c same) ∙ y) in
@@ -95,7 +94,7 @@ module _ (ts : List Token) where
       go true g e = (refl, e)
       go false g e = absurd (false≢true e)
 
-      is : (r : CellRead) → CellIs true (value_of c "isa") r → typed c ≡ true → compatible c ≡ true
+      is : (r : CellResult) → CellIs true (value_of c "isa") r → typed c ≡ true → compatible c ≡ true
           → Judged (required_checks c.at (value_of c "isa")) (number_in r) c.at → ContainerIs c r
       is (Ok isa) m d g j = record { hold = (d, (g, j.hold refl)); is = sym (number-cell (value_of c "isa") (m.cell refl)) }
       is (Err e) m d g j = fail-right (check_of c (typed c) ++ check_of c (compatible c)) _ (d, (g, tt)) (j.fail (numbered e))

@@ -15,11 +15,11 @@ use Rattle.refusal.specs.declared.Refusal.TheVariants.{PropertyForm, TooMany}
 use Rattle.refusal.specs.Refusal.{fault, number_in}
 use Rattle.refusal.specs.Checks.{check}
 use Rattle.record.specs.Record.{most_dependencies}
-use Rattle.feature.specs.Feature.{CellRead, cell_from, first_of}
+use Rattle.feature.specs.Feature.{read_as, cell_from, first_of}
 use Rattle.nodes.specs.Values.{Value, missing, value, is_given, is_cell_or_missing, is_cells, cells_of}
 use Rattle.nodes.specs.Parts.{Lies}
 use Rattle.reading.specs.Features.{required_checks, optional_checks, count_of}
-use Rattle.reader.specs.Parts.{cell_fault, CellIs, Judged, CountIs}
+use Rattle.reader.specs.Parts.{CellResult, cell_fault, CellIs, Judged, CountIs}
 use Rattle.reader.proofs.JudgedLaws.{judged-check, judged-both}
 use Rattle.reader.proofs.CellReadLaws.{long}
 
@@ -28,7 +28,7 @@ pub judged-pick : (b : Bool) (k p : ℕ) → 0 < k → Judged (check b (fault k 
 judged-pick b k p l = judged-check b k p l (λ e. rw e) (λ e. rw e)
 
 -- a cell's form
-pub required-judged : {v : Value} {r : CellRead} → CellIs true v r → (at : ℕ) → Judged (required_checks at v) (number_in r) at
+pub required-judged : {v : Value} {r : CellResult} → CellIs true v r → (at : ℕ) → Judged (required_checks at v) (number_in r) at
 required-judged {v} h at = rw h.fault (go v)
   where
     go : (v : Value) → Judged (required_checks at v) (cell_fault true v) at
@@ -39,7 +39,7 @@ pub form-judged : (v : Value) (at : ℕ) → Judged (optional_checks at v) (cell
 form-judged missing at = judged-pick true 11 at (omega arith)
 form-judged (value bs) at = judged-pick (eqb (length bs) 4) 11 at (omega arith)
 
-pub optional-judged : {v : Value} {r : CellRead} → CellIs false v r → (at : ℕ) → Judged (optional_checks at v) (number_in r) at
+pub optional-judged : {v : Value} {r : CellResult} → CellIs false v r → (at : ℕ) → Judged (optional_checks at v) (number_in r) at
 optional-judged {v} h at = rw h.fault (form-judged v at)
 
 pub given-judged : (needed : Bool) (v : Value) (at : ℕ)
@@ -50,8 +50,8 @@ given-judged true (value bs) at = judged-both _ _ (judged-pick true 11 at (omega
 given-judged false (value bs) at = judged-both _ _ (judged-pick true 11 at (omega arith)) (λ z. form-judged (value bs) at)
 
 -- the number of dependencies
-count-is : {v : Value} {r : CellRead} → number_in r ≡ first_of (pick (is_cells v) 0 11) (pick (leb (length (cells_of v)) most_dependencies) 0 8)
-    → (number_in r ≡ 0 → cell_from r ≡ count_of v) → CountIs v r
+count-is : {v : Value} {r : CellResult} → number_in r ≡ first_of (pick (is_cells v) 0 11) (pick (leb (length (cells_of v)) most_dependencies) 0 8)
+    → (number_in r ≡ 0 → cell_from (read_as r) ≡ count_of v) → CountIs v r
 count-is {v} e c = record {
   judged = λ at. rw e
       (judged-both _ _ (judged-pick (is_cells v) 11 at (omega arith)) (λ z. judged-pick (leb (length (cells_of v)) most_dependencies) 8 at (omega arith)));

@@ -21,7 +21,8 @@ use Rattle.refusal.specs.declared.Refusal.{Refusal}
 use Rattle.refusal.specs.declared.RefusedAt.{RefusedAt}
 use Rattle.refusal.specs.declared.Refusal.TheVariants.{OutOfRange, UnknownPhandle}
 use Rattle.tokens.specs.Steps.{pick}
-use Rattle.feature.specs.Feature.{CellRead, cell_from}
+use Rattle.feature.specs.declared.CellRead.{CellRead}
+use Rattle.feature.specs.Feature.{read_as, cell_from}
 use Rattle.feature.specs.declared.SupportCells.{SupportCells}
 use Rattle.feature.specs.declared.BitCells.{BitCells}
 use Rattle.feature.specs.declared.FeatureCells.{FeatureCells}
@@ -32,18 +33,22 @@ use Rattle.reading.specs.Features.{in_order, name_checks, number_checks, bit_che
 use Rattle.reading.specs.Dependencies.{carrier_checks, Resolution, unknown, found, positions_of, slots_of}
 use Rattle.reading.specs.Ends.{AllHold, FirstFailing}
 
+-- the cell of a property, or its refusal
+abbrev pub CellResult : Type 0
+CellResult = Result (Option ℕ) Refusal
+
 -- the refusal of a property of one cell, 0 where there is none; it may be needed
 abbrev pub cell_fault : Bool → Value → ℕ
 cell_fault needed missing = pick needed 11 0
 cell_fault needed (value bs) = pick (eqb (length bs) 4) 0 11
 
 -- the refusal of a property of one cell, and the cell where there is none
-pub record CellIs (needed : Bool) (v : Value) (r : CellRead) : Type 0 where
+pub record CellIs (needed : Bool) (v : Value) (r : CellResult) : Type 0 where
   pub fault : number_in r ≡ cell_fault needed v
-  pub cell : number_in r ≡ 0 → cell_from r ≡ cell_of v
+  pub cell : number_in r ≡ 0 → cell_from (read_as r) ≡ cell_of v
 
 -- a cell refused where its number is above another: "0 to 63", no "all ones"
-abbrev pub at_most : ℕ → CellRead → CellRead
+abbrev pub at_most : ℕ → CellResult → CellResult
 at_most high (Ok None) = Ok None
 at_most high (Ok (Some n)) = pick (leb n high) (Ok (Some n)) (Err OutOfRange)
 at_most high (Err refusal) = Err refusal
@@ -54,9 +59,9 @@ pub record Judged (cs : List (Check Fault)) (number place : ℕ) : Type 0 where
   pub fail : (number ≡ 0 → ⊥) → FirstFailing cs number place
 
 -- the number of a node's dependencies
-pub record CountIs (v : Value) (r : CellRead) : Type 0 where
+pub record CountIs (v : Value) (r : CellResult) : Type 0 where
   pub judged : (at : ℕ) → Judged (dependencies_checks at v) (number_in r) at
-  pub cell : number_in r ≡ 0 → cell_from r ≡ count_of v
+  pub cell : number_in r ≡ 0 → cell_from (read_as r) ≡ count_of v
 
 -- what is noted of a node's phandle
 abbrev pub noted_of : Node → Option ℕ
@@ -70,36 +75,42 @@ abbrev pub AreFeatures : List Feature → List Node → Type 0
 AreFeatures features nodes = features ≡ padded most_features no_feature (map feature_of nodes)
 
 -- a bit number that may be missing, and one that may be needed
-pub record NumberIs (highest : ℕ) (v : Value) (r : CellRead) : Type 0 where
+pub record NumberIs (highest : ℕ) (v : Value) (r : CellResult) : Type 0 where
   pub judged : (at : ℕ) → Judged (number_checks at highest v) (number_in r) at
-  pub cell : number_in r ≡ 0 → cell_from r ≡ cell_of v
+  pub cell : number_in r ≡ 0 → cell_from (read_as r) ≡ cell_of v
 
-pub record BitIs (highest : ℕ) (needed : Bool) (v : Value) (r : CellRead) : Type 0 where
+pub record BitIs (highest : ℕ) (needed : Bool) (v : Value) (r : CellResult) : Type 0 where
   pub judged : (at : ℕ) → Judged (bit_checks at highest needed v) (number_in r) at
-  pub cell : number_in r ≡ 0 → cell_from r ≡ cell_of v
+  pub cell : number_in r ≡ 0 → cell_from (read_as r) ≡ cell_of v
 
 -- a phandle behind the features of some nodes
-pub record PhandleIs (phandles : List (Option ℕ)) (n : ℕ) (v : Value) (r : CellRead) : Type 0 where
+pub record PhandleIs (phandles : List (Option ℕ)) (n : ℕ) (v : Value) (r : CellResult) : Type 0 where
   pub judged : (before : List Node) → ArePhandles phandles before → n ≡ length before → (at : ℕ) → Judged (phandle_checks at before v) (number_in r) at
-  pub cell : number_in r ≡ 0 → cell_from r ≡ cell_of v
+  pub cell : number_in r ≡ 0 → cell_from (read_as r) ≡ cell_of v
+
+-- a property as an answer gives it
+pub record IsRead (Is : CellResult → Type 0) (r : CellRead) : Type 0 where
+  pub answer : CellResult
+  pub is : Is answer
+  pub same : r ≡ read_as answer
 
 -- the cells of a feature's properties, each by itself
 pub record SupportIs (ts : List Token) (r : SupportCells) : Type 0 where
-  pub usable : CellIs true (value_in (bytes "usable-privilege") ts) r.usable_privilege
-  pub hv : CellIs false (value_in (bytes "hv-support") ts) r.hv_support
-  pub os : CellIs false (value_in (bytes "os-support") ts) r.os_support
+  pub usable : IsRead (CellIs true (value_in (bytes "usable-privilege") ts)) r.usable_privilege
+  pub hv : IsRead (CellIs false (value_in (bytes "hv-support") ts)) r.hv_support
+  pub os : IsRead (CellIs false (value_in (bytes "os-support") ts)) r.os_support
 
 pub record BitsAre (ts : List Token) (s : SupportCells) (r : BitCells) : Type 0 where
-  pub hfscr : BitIs highest_hfscr_bit (low_bit (cell_from s.hv_support)) (value_in (bytes "hfscr-bit-nr") ts) r.hfscr_bit_nr
-  pub fscr : BitIs highest_fscr_bit (low_bit (cell_from s.os_support)) (value_in (bytes "fscr-bit-nr") ts) r.fscr_bit_nr
-  pub hwcap : NumberIs highest_hwcap_bit (value_in (bytes "hwcap-bit-nr") ts) r.hwcap_bit_nr
+  pub hfscr : IsRead (BitIs highest_hfscr_bit (low_bit (cell_from s.hv_support)) (value_in (bytes "hfscr-bit-nr") ts)) r.hfscr_bit_nr
+  pub fscr : IsRead (BitIs highest_fscr_bit (low_bit (cell_from s.os_support)) (value_in (bytes "fscr-bit-nr") ts)) r.fscr_bit_nr
+  pub hwcap : IsRead (NumberIs highest_hwcap_bit (value_in (bytes "hwcap-bit-nr") ts)) r.hwcap_bit_nr
 
 pub record CellsAre (ts : List Token) (phandles : List (Option ℕ)) (n : ℕ) (r : FeatureCells) : Type 0 where
-  pub isa : CellIs true (value_in (bytes "isa") ts) r.isa
+  pub isa : IsRead (CellIs true (value_in (bytes "isa") ts)) r.isa
   pub support : SupportIs ts r.support
   pub bits : BitsAre ts r.support r.bits
-  pub phandle : PhandleIs phandles n (value_in (bytes "phandle") ts) r.phandle
-  pub dependencies : CountIs (value_in (bytes "dependencies") ts) r.dependencies
+  pub phandle : IsRead (PhandleIs phandles n (value_in (bytes "phandle") ts)) r.phandle
+  pub dependencies : IsRead (CountIs (value_in (bytes "dependencies") ts)) r.dependencies
 
 -- one feature behind others: what its checks find, and the feature and what is noted of its phandle where they find nothing
 pub record FeatureIs (before : List Node) (n : Node) (old new : List (Option ℕ)) (r : Result Feature Refusal) : Type 0 where
@@ -201,11 +212,11 @@ pub record ContainerRead (c : Node) (isa : Option ℕ) : Type 0 where
   pub hold : AllHold (container_properties c)
   pub is : unwrap_or isa 0 ≡ number (value_of c "isa")
 
-abbrev pub ContainerIs : Node → CellRead → Type 0
+abbrev pub ContainerIs : Node → CellResult → Type 0
 ContainerIs c (Ok isa) = ContainerRead c isa
 ContainerIs c (Err e) = FirstFailing (container_properties c) (number_of e) c.at
 
-abbrev pub ReadsContainer : List ℕ → Blocks → ℕ → CellRead → Type 0
+abbrev pub ReadsContainer : List ℕ → Blocks → ℕ → CellResult → Type 0
 ReadsContainer tree b first r = (c : Node) → ((name : List ℕ) → value_in name c.behind ≡ value_in name (tree_tokens tree b first)) → ContainerIs c r
 
 -- a container, its `isa` and the places of its features

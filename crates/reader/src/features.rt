@@ -15,10 +15,10 @@ ghost use Rattle.reader.specs.Parts.{
   ReadsFeatures,
 };
 
-use crate::cell::at_most;
+use crate::cell::{CellResult, at_most};
 use crate::phandles::Phandles;
 use crate::tree::{Contents, Tree};
-use feature::{BitCells, CellRead, FeatureCells, SupportCells, no_feature, try_feature_of};
+use feature::{BitCells, FeatureCells, SupportCells, no_feature, try_feature_of};
 use nodes::{ChildPlaces, NodePlace};
 use record::{Feature, HIGHEST_FSCR_BIT, HIGHEST_HFSCR_BIT, HIGHEST_HWCAP_BIT, MOST_FEATURES};
 use refusal::{Refusal, RefusedAt};
@@ -30,7 +30,7 @@ impl Contents<'_> {
     ghost use Rattle.reader.specs.Contents.{tokens_of};
 
     // A phandle: neither 0 nor all ones, and not one that a feature before carries.
-    fn read_phandle(&self, phandles: &Phandles) -> CellRead
+    fn read_phandle(&self, phandles: &Phandles) -> CellResult
         ensures { PhandleIs phandles.now.noted.now phandles.now.count (value_in (bytes "phandle") (tokens_of self.now)) result }
     {
         let Some(phandle) = self.read_cell(b"phandle", false)? else {
@@ -50,9 +50,9 @@ impl Contents<'_> {
         ensures { SupportIs (tokens_of self.now) result }
     {
         SupportCells {
-            usable_privilege: self.read_cell(b"usable-privilege", true),
-            hv_support: self.read_cell(b"hv-support", false),
-            os_support: self.read_cell(b"os-support", false),
+            usable_privilege: self.read_cell(b"usable-privilege", true).into(),
+            hv_support: self.read_cell(b"hv-support", false).into(),
+            os_support: self.read_cell(b"os-support", false).into(),
         }
     }
 
@@ -61,9 +61,13 @@ impl Contents<'_> {
         ensures { BitsAre (tokens_of self.now) s result }
     {
         BitCells {
-            hfscr_bit_nr: self.read_bit(b"hfscr-bit-nr", s.hv_support, HIGHEST_HFSCR_BIT),
-            fscr_bit_nr: self.read_bit(b"fscr-bit-nr", s.os_support, HIGHEST_FSCR_BIT),
-            hwcap_bit_nr: at_most(self.read_cell(b"hwcap-bit-nr", false), HIGHEST_HWCAP_BIT),
+            hfscr_bit_nr: self
+                .read_bit(b"hfscr-bit-nr", s.hv_support, HIGHEST_HFSCR_BIT)
+                .into(),
+            fscr_bit_nr: self
+                .read_bit(b"fscr-bit-nr", s.os_support, HIGHEST_FSCR_BIT)
+                .into(),
+            hwcap_bit_nr: at_most(self.read_cell(b"hwcap-bit-nr", false), HIGHEST_HWCAP_BIT).into(),
         }
     }
 
@@ -73,11 +77,11 @@ impl Contents<'_> {
     {
         let support = self.read_support();
         FeatureCells {
-            isa: self.read_cell(b"isa", true),
+            isa: self.read_cell(b"isa", true).into(),
             support,
             bits: self.read_bits(support),
-            phandle: self.read_phandle(phandles),
-            dependencies: self.read_count(),
+            phandle: self.read_phandle(phandles).into(),
+            dependencies: self.read_count().into(),
         }
     }
 }
@@ -102,7 +106,7 @@ impl Tree<'_> {
             first: p.behind,
         };
         let cells = contents.read_cells(&before);
-        phandles[i] = cells.phandle.unwrap_or(None);
+        phandles[i] = cells.phandle.cell;
         try_feature_of(p.at as u32, cells)
     }
 

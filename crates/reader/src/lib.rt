@@ -23,7 +23,8 @@ ghost use Rattle.reader.specs.Parts.{
   ReadsChildren,
 };
 
-use feature::{CellRead, no_feature};
+use cell::CellResult;
+use feature::no_feature;
 use nodes::{ChildPlaces, behind, child_places, repeated_name};
 use record::{MOST_FEATURES, Record, SLOTS};
 use refusal::{Refusal, RefusedAt};
@@ -52,7 +53,7 @@ impl Contents<'_> {
     }
 
     // The `isa` of a container, after its `device_type` and `compatible`.
-    fn container_isa(&self) -> CellRead
+    fn container_isa(&self) -> CellResult
         ensures { ReadsContainer self.now.tree.bytes.now self.now.tree.blocks self.now.first result }
     {
         if !self.is_container() {
