@@ -2,8 +2,10 @@
 use mathlib.Core.Path.{◌≡◌, refl, sym, ap, ap₂, ◌∙◌}
 use mathlib.Core.Bool.{Bool, true, false}
 use mathlib.Core.List.{List, [], ◌∷◌, ◌++◌, append_assoc, append-nil}
-use Prim.Native.Nat.{ℕ, zero, suc, ◌+◌, ◌-◌, ◌^◌, ◌/◌, ◌%◌, ◌<◌, ◌≤◌}
+use Prim.Native.Nat.{ℕ, zero, suc, ◌+◌, ◌-◌, ◌*◌, ◌^◌, ◌/◌, ◌%◌, ◌<◌, ◌≤◌}
 use native.Mathlib.Omega.{arith}
+use native.Mathlib.Decide.{dec_lt}
+use native.Mathlib.Nat.{pow-suc}
 use native.Mathlib.Numerals.{add-one}
 use borrow.Author.Tests.{ltb-false, lt-ltb, le-ltb}
 use lib.Dec.{ltb}
@@ -36,15 +38,40 @@ fuel (suc f) (suc g) n h k = go (ltb n 10) refl (fuel f g (n / 10))
     go false e r = let l : 10 ≤ n = ltb-false n 10 e in rw (e, places_within) (ap suc (r (omega arith) (omega arith)))
 
 module _ (n : ℕ) where
-  places-one : n < 10 → decimal_places n ≡ 1
+  pub places-one : n < 10 → decimal_places n ≡ 1
   unfolding decimal_places places_within
   places-one h = rw (lt-ltb n 10 h, places_within)
 
-  places-more : 10 ≤ n → decimal_places n ≡ decimal_places (n / 10) + 1
+  pub places-more : 10 ≤ n → decimal_places n ≡ decimal_places (n / 10) + 1
   unfolding decimal_places places_within
   places-more h =
       let e : places_within n (n / 10) ≡ places_within (suc (n / 10)) (n / 10) = fuel n (suc (n / 10)) (n / 10) (omega arith) (omega arith) in
       rw (le-ltb n 10 h, places_within) (omega (arith, e))
+
+  pub places-some : 1 ≤ decimal_places n
+  places-some = go (dec_lt n 10)
+    where
+      go : Dec (n < 10) → 1 ≤ decimal_places n
+      go (yes h) = omega (arith, places-one h)
+      go (no h) = omega (arith, places-more (omega arith))
+
+-- no more than the number needs
+pub places-most : (d n : ℕ) → n < 10 ^ suc d → decimal_places n ≤ suc d
+places-most zero n h = omega (arith, places-one n (omega arith))
+places-most (suc d) n h = go (dec_lt n 10) (places-most d (n / 10))
+  where
+    go : Dec (n < 10) → (n / 10 < 10 ^ suc d → decimal_places (n / 10) ≤ suc d) → decimal_places n ≤ suc (suc d)
+    go (yes l) r = omega (arith, places-one n l)
+    go (no l) r =
+        let k : n < 10 ^ suc d * 10 = rw (pow-suc 10 (suc d)) at h in
+        omega (arith, places-more n (omega arith), r (omega arith))
+
+pub length-decimal : (n : ℕ) → length (decimal n) ≡ decimal_places n
+unfolding decimal
+length-decimal n = length_digits 10 (decimal_places n) n
+
+pub decimal-most : (d n : ℕ) → n < 10 ^ suc d → length (decimal n) ≤ suc d
+decimal-most d n h = omega (arith, length-decimal n, places-most d n h)
 
 -- std's digits of a number are these
 abbrev Same : ℕ → List ℕ → Type 0

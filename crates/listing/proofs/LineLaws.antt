@@ -56,7 +56,7 @@ module _ (tree : List ℕ) (refused : (read_record tree).number ≡ 0 → ⊥) w
       go zero f = absurd (f refl)
       go (suc m) f = refl
 
-  pub refused-past : {k : ℕ} {old new : Line} → (k ≡ 0 → ⊥) → Composed tree k old new 16
+  pub refused-past : {k : ℕ} {old : Line} → (k ≡ 0 → ⊥) → Composed tree k old old 16
   refused-past ne = none (omega (arith, ap length refused-lines))
 
   pub refused-first : {k n p : ℕ} {old new : Line} → k ≡ 0 → n ≡ (read_record tree).number → p ≡ (read_record tree).place
@@ -120,8 +120,8 @@ module _ {tree : List ℕ} {r : Record} (read : IsRead tree r) where
         let q : suc r.count ≡ k = omega arith in
         some (omega (arith, lines-count)) (put_as (words-is ∙ ap (line_at tree) q) w)
 
-    pub compose_past : r.count < k → (k ≡ r.count + 1 → ⊥) → Composed tree k old new 16
-    compose_past l ne = none (omega (arith, lines-count))
+  pub compose_past : {k : ℕ} {old : Line} → r.count < k → (k ≡ r.count + 1 → ⊥) → Composed tree k old old 16
+  compose_past l ne = none (omega (arith, lines-count))
 
 pub ruleset composes = (compose_head, compose_feature, compose_words, compose_past)
 
@@ -130,6 +130,10 @@ composed : {tree : List ℕ} {k : ℕ} {old new : Line} {n : ℕ} → Composed t
     → (k < length (listing tree)) × Puts old (line_at tree k) new
 composed (none h) e = absurd (omega arith)
 composed (some h w) e = (h, w)
+
+-- it fits the line's bytes
+pub line-short : {tree : List ℕ} {k : ℕ} {old new : Line} {n : ℕ} → Composed tree k old new n → n ≡ 0 → new.length ≤ length old.bytes
+line-short c e = let w = (composed c e).1 in omega (arith, w.reached, w.room)
 
 -- what a composed line, or none, does to a lent buffer
 module _ (tree : List ℕ) (k : ℕ) (out : List ℕ) where

@@ -36,7 +36,7 @@ pub record IsRead (tree : List ℕ) (r : Record) : Type 0 where
   pub accepted : (read_record tree).number ≡ 0
   pub same : (read_record tree).value ≡ r
 
--- line k of a tree is put into a line; or there is no such line, and the refusal is 16
-pub data Composed (tree : List ℕ) (k : ℕ) (old new : Line) : ℕ → Type 0 where
-  none : length (listing tree) ≤ k → Composed tree k old new 16
-  some : k < length (listing tree) → Puts old (line_at tree k) new → Composed tree k old new 0
+-- line k of a tree is put into a line; or there is no such line: the line stays, and the refusal is 16
+pub data Composed (tree : List ℕ) (k : ℕ) (old : Line) : Line → ℕ → Type 0 where
+  none : length (listing tree) ≤ k → Composed tree k old old 16
+  some : {new : Line} → k < length (listing tree) → Puts old (line_at tree k) new → Composed tree k old new 0
