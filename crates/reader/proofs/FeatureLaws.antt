@@ -52,8 +52,8 @@ low-cell : (v : Value) → bit_of_cell (cell_of v) ≡ low_bit v
 low-cell missing = sym (bit-none 0)
 low-cell (value bs) = refl
 
-support-judged : {highest : ℕ} {needed : Bool} {v u : Value} {s r : CellRead} (h : IsRead (CellIs needed v) s) → refused_number s.refusal ≡ 0
-    → (g : IsRead (BitIs highest (bit_of_cell (cell_from s)) u) r) → (at : ℕ) → Judged (bit_checks at highest (low_bit v) u) (refused_number r.refusal) at
+support-judged : {highest : ℕ} {needed : Bool} {v u : Value} {s r : CellRead} → IsRead (CellIs needed v) s → refused_number s.refusal ≡ 0
+    → IsRead (BitIs highest (bit_of_cell (cell_from s)) u) r → (at : ℕ) → Judged (bit_checks at highest (low_bit v) u) (refused_number r.refusal) at
 support-judged {highest} {v = v} {u = u} {r = r} h z g at =
     subst (λ (b : Bool). Judged (bit_checks at highest b u) (refused_number r.refusal) at) (ap bit_of_cell (cell-read h h.is.cell z) ∙ low-cell v)
     (judged-read g (g.is.judged at))
