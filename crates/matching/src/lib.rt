@@ -34,10 +34,13 @@ pub fn has_name(s: &[u8], from: usize, end: usize, name: &[u8]) -> bool
     let Some(block) = s.get(from..end.min(s.len())) else {
         return false;
     };
+    if block.len() <= name.len() || block[name.len()] != 0 {
+        return false;
+    }
     for (b, c) in block.iter().zip(name) {
         if b != c || *b == 0 {
             return false;
         }
     }
-    block.get(name.len()) == Some(&0)
+    true
 }
