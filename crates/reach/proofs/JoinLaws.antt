@@ -5,11 +5,11 @@ use mathlib.Core.Bool.{Bool, true, false, ◌&&◌, ◌||◌, cond}
 use mathlib.Core.List.{List}
 use native.Mathlib.Decide.{dec_lt}
 use native.Mathlib.Omega.{arith}
-use borrow.Author.Tests.{lt-ltb, le-ltb}
-use lib.Dec.{ltb}
-use Rattle.positions.specs.Sets.{has, set_of, with_member, either}
+use borrow.Author.Tests.{lt-ltb, le-ltb, eq-eqb, eqb-true}
+use lib.Dec.{eqb, ltb}
+use Rattle.positions.specs.Sets.{room, has, set_of, no_members, with_member, either, is_subset}
 use Rattle.positions.proofs.SetLaws.{or-false}
-use Rattle.positions.proofs.MemberLaws.{has-set-of, set-of-same}
+use Rattle.positions.proofs.MemberLaws.{has-set-of, set-of-same, with-member, subset-at, subset-of}
 use Rattle.record.specs.Record.{most_features}
 use Rattle.tables.specs.Tables.{row_at, row_or_none, table_of}
 use Rattle.tables.specs.Parts.{with_row}
@@ -24,6 +24,22 @@ use Rattle.reach.proofs.ThroughLaws.{Through, through-none, through-more, throug
 pub self_row : (table : List ℕ) (i : ℕ) {s : List ℕ} → s ≡ row_at table i → with_member s i ≡ set_of (with_self table i)
 unfolding with_member with_self
 self_row table i e = rw e
+
+-- the set of one position is inside of the sets that have it
+pub own-inside : (words : List ℕ) (k : ℕ) → k < room → is_subset (with_member (set_of no_members) k) words ≡ has words k
+unfolding no_members
+own-inside words k h = go (has words k) refl (is_subset (with_member (set_of no_members) k) words) refl
+  where
+    alone : (i : ℕ) → i < room → has (with_member (set_of no_members) k) i ≡ eqb k i
+    alone i l = with-member (set_of no_members) k i l ∙ ap (λ (b : Bool). b || eqb k i) (has-set-of no_members i l)
+
+    go : (b : Bool) → has words k ≡ b → (s : Bool) → is_subset (with_member (set_of no_members) k) words ≡ s → s ≡ b
+    go true e s f =
+        sym f ∙ subset-of (with_member (set_of no_members) k) words (λ i l m.
+        let same : k ≡ i = eqb-true k i (sym (alone i l) ∙ m) in
+        rw same at e)
+    go false e true f = sym (subset-at (with_member (set_of no_members) k) words f k h (alone k h ∙ eq-eqb k k refl)) ∙ e
+    go false e false f = refl
 
 -- the two answers of `joined`
 pub joined_in : (row other : List ℕ) (k : ℕ) → has row k ≡ true → either row other ≡ joined row other k
